@@ -3,7 +3,8 @@ _plfs() {
     local word=${COMP_WORDS[COMP_CWORD]} place=$COMP_CWORD i verbs
     case ${COMP_WORDS[0]##*/} in
     plfs_copy) verbs='put get import export' ;;
-    plfs_check | plfs_serve) verbs='' ;;
+    plfs_check) verbs='' ;;
+    plfs_serve) verbs='--at' ;;
     *) verbs='run play gen cat stat map flatten trunc rename recover ls migrate pack unpack names drain' ;;
     esac
     # A colon parts the folders of ROOT, and is a word of its own here.
@@ -21,6 +22,12 @@ _plfs() {
         else
             compopt -o filenames 2>/dev/null
             mapfile -t COMPREPLY < <(compgen -d -- "${word##*:}")
+        fi
+        ;;
+    3)
+        if [[ ${COMP_WORDS[0]##*/} == plfs_serve && ${COMP_WORDS[COMP_CWORD - 1]} == --at ]]; then
+            compopt -o filenames 2>/dev/null
+            mapfile -t COMPREPLY < <(compgen -d -- "$word")
         fi
         ;;
     2)

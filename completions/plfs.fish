@@ -20,3 +20,5 @@ for program in plfs plfs_copy plfs_check plfs_serve
 end
 complete -c plfs -n '__plfs_is_word 2' -a 'run play gen cat stat map flatten trunc rename recover ls migrate pack unpack names drain'
 complete -c plfs_copy -n '__plfs_is_word 2' -a 'put get import export'
+complete -c plfs_serve -n '__plfs_is_word 2' -l at -d 'serves several processes, which come by the folder behind it'
+complete -c plfs_serve -n '__plfs_is_word 3' -a '(__fish_complete_directories (commandline -ct))'

@@ -13,9 +13,13 @@ _plfs() {
     3)
         case ${words[1]:t} in
         plfs_copy) compadd -- put get import export ;;
-        plfs_check | plfs_serve) ;;
+        plfs_check) ;;
+        plfs_serve) compadd -- --at ;;
         *) compadd -- run play gen cat stat map flatten trunc rename recover ls migrate pack unpack names drain ;;
         esac
+        ;;
+    4)
+        [[ ${words[1]:t} == plfs_serve && ${words[3]} == --at ]] && _files -/
         ;;
     esac
 }

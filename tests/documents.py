@@ -18,7 +18,7 @@ INDEX_LINES = 40
 LEMMA_FILES = 20
 EDITS = 4
 # Crates without code whose README tells the theorem, and two whose definitions all laws stand on.
-LAWS = ["gathering", "drain_sound", "mount_shape", "mount_losses", "mount_undamaged", "mount_sound", "mount_model", "story"]
+LAWS = ["drain_sound", "mount_losses", "mount_undamaged", "mount_sound", "mount_model"]
 # What such a page has: the theorem in words, the tree of lemmas, where to begin.
 THEOREM = ["**The theorem", "## The tree of lemmas", "## Where to begin"]
 
@@ -269,7 +269,7 @@ def crowded_proofs(top):
     """Lemma files stand in folders by topic where they are many: those of proofs/, and those of each topic."""
     for proofs in sorted(top.glob("crates/*/proofs")):
         for folder in [proofs] + sorted(it for it in proofs.iterdir() if it.is_dir() and it.name[0].isupper()):
-            files = [it for it in folder.glob("*.antt") if it.name != "Lib.antt"]
+            files = [it for it in folder.glob("*.antt") if it.name != "Lib.antt" and not it.with_suffix("").is_dir()]
             if len(files) > LEMMA_FILES:
                 yield f"{folder.relative_to(top)}: {len(files)} files of lemmas side by side, and at most {LEMMA_FILES} are wanted"
 

@@ -78,6 +78,39 @@ def a_fortran_program_goes_on_from_its_checkpoint(trial):
     has_no_dead(trial, "grid")
 
 
+UNOPENED = """program unopened
+  use plfs
+  use, intrinsic :: iso_c_binding, only: c_int64_t
+  type(plfs_fs) :: fs
+  type(plfs_file) :: file
+  integer :: bytes(1)
+  bytes = 0
+  if (plfs_mount(ROOT, fs) < 0) stop 1
+  if (plfs_open_read(fs, "away", file) /= -plfs_no_file) stop 2
+  if (plfs_pread(file, bytes, 4_c_int64_t, 0_c_int64_t) /= -plfs_not_open) stop 3
+  if (plfs_pwrite(file, bytes, 4_c_int64_t, 0_c_int64_t) /= -plfs_not_open) stop 4
+  if (plfs_sync(file) /= -plfs_not_open .or. plfs_refresh(file) /= -plfs_not_open) stop 5
+  if (plfs_size(file) /= -plfs_not_open .or. plfs_pieces(file) /= -plfs_not_open) stop 6
+  if (plfs_stamp(file) /= 0 .or. plfs_close(file) /= 0) stop 7
+  if (plfs_unmount(fs) /= 0 .or. plfs_unmount(fs) /= -plfs_not_open) stop 8
+  if (plfs_stat(fs, "f") /= -plfs_not_open) stop 9
+end program
+"""
+
+
+@check
+def a_fortran_program_is_refused_calls_of_what_was_not_opened(trial):
+    folder, source = trial.top / "clients", trial.folder / "unopened.f90"
+    fortran = shutil.which("gfortran")
+    if not fortran or not shutil.which("cc"):
+        raise Skipped("no Fortran compiler")
+    source.write_text(UNOPENED.replace("ROOT", f'"{trial.root}"'))
+    same("what the compiler says", ran(trial, ["cc", "-std=c11", "-c", *sorted((folder / "c").glob("*.c"))]), (0, "", ""))
+    words = [fortran, "-std=f2018", "-J", trial.folder, folder / "fortran" / "plfs.f90", source, *sorted(trial.folder.glob("plfs_*.o"))]
+    same("what the Fortran compiler says", ran(trial, [*words, "-o", trial.folder / "unopened", "-pthread"]), (0, "", ""))
+    same("how it ends", ran(trial, [trial.folder / "unopened"]), (0, "", ""))
+
+
 @check
 def a_python_program_is_restarted(trial):
     out = "state: went on from 100000 numbers; files: state state.copy\n"

@@ -2,6 +2,7 @@
 
 import contextlib
 import fcntl
+import functools
 import importlib.util
 import os
 import pathlib
@@ -24,12 +25,17 @@ KILLED = 10
 NAMES = [b"a", b"b", b"long-name.of_a-file"]
 
 
-def client(trial):
-    """The module of the Python client."""
-    spec = importlib.util.spec_from_file_location("plfs_client", trial.top / "clients" / "python" / "plfs.py")
+@functools.cache
+def loaded(path):
+    spec = importlib.util.spec_from_file_location("plfs_client", path)
     module = importlib.util.module_from_spec(spec)
     spec.loader.exec_module(module)
     return module
+
+
+def client(trial):
+    """The module of the Python client, which is loaded once."""
+    return loaded(trial.top / "clients" / "python" / "plfs.py")
 
 
 def engine(trial):

@@ -90,14 +90,16 @@ def the_manual_of_plfs_copy_its_help_and_completions_have_the_words_of_its_usage
 @check
 def the_manual_of_plfs_serve_its_help_and_completions_have_its_words(trial):
     usage = subprocess.run(["plfs_serve"], executable=trial.program, stdout=subprocess.PIPE, text=True, timeout=20).stdout
-    same("the usage line", usage, "usage: plfs_serve ROOT [HOST]\n")
+    same("the usage line", usage, "usage: plfs_serve ROOT [--at FOLDER] [HOST]\n")
     helped = subprocess.run([trial.top / "plfs_serve", "--help"], stdout=subprocess.PIPE, text=True, timeout=20).stdout
     true("--help has another usage line", helped.startswith(usage))
     page = trial.top / "docs" / "plfs_serve.1"
     for status in range(8):
         true(f"the manual lacks the status {status}", re.search(rf"^\.B {status}$", page.read_text().partition('.SH "EXIT STATUS"')[2], re.M))
+    true("the manual lacks --at", re.search(r"^\.B.*\\-\\-at", page.read_text(), re.M) is not None)
     for shell in ("bash", "zsh", "fish"):
-        true(f"plfs.{shell} lacks plfs_serve", "plfs_check plfs_serve" in (trial.top / "completions" / f"plfs.{shell}").read_text())
+        text = (trial.top / "completions" / f"plfs.{shell}").read_text()
+        true(f"plfs.{shell} lacks plfs_serve or --at", "plfs_check plfs_serve" in text and re.search(r"--at|-l at", text) is not None)
     if shutil.which("man"):
         how = {"stdout": subprocess.DEVNULL, "stderr": subprocess.PIPE, "text": True}
         words = ["man", "--warnings", "-E", "UTF-8", "-l", "-Tutf8", "-Z", str(page)]

@@ -83,9 +83,10 @@ class Trial:
         self.scripts = 0
         self.root.mkdir()
 
-    def start(self, script, root=None, words=("play",), closed=(), limits=(), **how):
-        """Starts the program on a script, with these descriptors closed and these limits of the system set. Each script
-        is a file of its own: a program that was started before may not have read its own to the end."""
+    def start(self, script, root=None, words=("play",), closed=(), limits=(), called=None, **how):
+        """Starts the program on a script, with these descriptors closed and these limits of the system set, under another
+        name where one is said. Each script is a file of its own: a program that was started before may not have read its
+        own to the end."""
         self.scripts += 1
         place = self.folder / f"script{self.scripts}"
         place.write_text(script)
@@ -103,7 +104,8 @@ class Trial:
                 how[stream] = None
         with open(place, "rb") as script_file:
             how.setdefault("stdin", script_file)
-            return subprocess.Popen([self.program, self.root if root is None else root, *words], preexec_fn=before, **how)
+            words = [called or self.program, self.root if root is None else root, *words]
+            return subprocess.Popen(words, executable=self.program, preexec_fn=before, **how)
 
     def run(self, script, root=None, **how):
         """Runs the program on a script to its end: its status, and what it printed."""

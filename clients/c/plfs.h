@@ -33,7 +33,7 @@ enum plfs_error {
     PLFS_TOO_FAR = 5,         /* a file ends at 2^40 bytes at the most                                         */
     PLFS_STAMPS_SPENT = 6,    /* no stamp is left                                                              */
     PLFS_IDS_SPENT = 7,       /* no id of a writer, or of a flattened index, is left                           */
-    PLFS_NOT_OPEN = 8,        /* the handle is not of this kind, or its writer or reader is closed             */
+    PLFS_NOT_OPEN = 8,        /* the handle or mount is NULL, not of this kind, or closed                      */
     PLFS_ALREADY_OPEN = 9,    /* the handle has a writer or a reader already                                   */
     PLFS_MOUNTS_SPENT = 10,   /* the folder can't be mounted once more: no mark is left                        */
     PLFS_BAD_NAME = 11,       /* no name of a file: 1 to 64 of A-Za-z0-9_-. and neither . nor - first          */
@@ -49,8 +49,8 @@ enum plfs_error {
     PLFS_STRANGE = 21         /* what came is no answer, and the mount is given up                             */
 };
 
-/* PLFS_HANDLES: handles that a mount may have open. PLFS_LONGEST: bytes of one request; longer calls are several requests. */
-enum { PLFS_HANDLES = 255, PLFS_LONGEST = 1 << 24 };
+/* PLFS_HANDLES: handles that a mount may have open, and PLFS_HANDLES_AT where it joined an engine. PLFS_LONGEST: bytes of one request; longer calls are several requests. */
+enum { PLFS_HANDLES = 255, PLFS_HANDLES_AT = 15, PLFS_LONGEST = 1 << 24 };
 
 typedef struct plfs_fs plfs_fs;     /* a mount */
 typedef struct plfs_file plfs_file; /* a writer or a reader of one file */
@@ -61,11 +61,17 @@ const char *plfs_strerror(int error);
 /* ---- mounts */
 
 /* Starts an engine on ROOT, a folder that is there, or 1 to 8 of them with colons between. Its writers are of this host: 0 where
- * nothing else is wanted. PLFS_NOT_STARTED, PLFS_NO_ROOT,
+ * nothing else is wanted. *fs is NULL where the call failed. PLFS_NOT_STARTED, PLFS_NO_ROOT,
  * PLFS_FAULT (also where another program has the folder), PLFS_DAMAGED, PLFS_MOUNTS_SPENT, PLFS_NO_MEMORY, PLFS_ENGINE_MEMORY. */
 int plfs_mount(const char *root, uint32_t host, plfs_fs **fs);
 
-/* Syncs and closes what is open, ends the engine and waits for its end. All handles of the mount are gone, whatever is answered.
+/* Joins the engine that serves the processes of this machine by this folder: plfs_serve ROOT --at FOLDER. plfs_mount does so where PLFS_AT of
+ * the environment names a folder, whatever root and host say. PLFS_NOT_STARTED where no engine serves there, PLFS_NO_HANDLE where it serves
+ * as many processes as it may, PLFS_GONE, PLFS_NO_ROOT, PLFS_NO_MEMORY. */
+int plfs_mount_at(const char *folder, plfs_fs **fs);
+
+/* Syncs and closes what is open, ends the engine and waits for its end. All handles of the mount are gone and their memory is free,
+ * whatever is answered. A program doesn't use one behind that, nor close it. An engine that was joined goes on, and 0 is answered.
  * PLFS_FAULT, PLFS_ENGINE_MEMORY, PLFS_GONE. A writer that can't be closed is answered by plfs_close alone. */
 int plfs_unmount(plfs_fs *fs);
 
@@ -75,7 +81,7 @@ int plfs_damage(plfs_fs *fs, char *item, size_t room, uint64_t *place);
 
 /* ---- writers: each has a log of its own, and its bytes are seen by readers once they have landed */
 
-/* Opens a writer, and makes the file where there is none. PLFS_BAD_NAME, PLFS_HELD, PLFS_IDS_SPENT, PLFS_NO_HANDLE. */
+/* Opens a writer, and makes the file where there is none. *file is NULL where the call failed. PLFS_BAD_NAME, PLFS_HELD, PLFS_IDS_SPENT, PLFS_NO_HANDLE. */
 int plfs_open_write(plfs_fs *fs, const char *name, plfs_file **file);
 
 /* Writes n bytes at this place. Answers n, or where a later request than the first failed how many bytes were written before it.
@@ -95,7 +101,7 @@ int64_t plfs_close(plfs_file *file);
 
 /* ---- readers: each sees what had landed as it was opened or last refreshed, whatever is written meanwhile */
 
-/* Opens a reader, whose indices are read in so many shares, 1 to 16. PLFS_NO_FILE, PLFS_BAD_NAME, PLFS_BAD_NUMBER,
+/* Opens a reader, whose indices are read in so many shares, 1 to 16. *file is NULL where the call failed. PLFS_NO_FILE, PLFS_BAD_NAME, PLFS_BAD_NUMBER,
  * PLFS_NO_HANDLE, PLFS_DAMAGED. */
 int plfs_open_read(plfs_fs *fs, const char *name, uint32_t workers, plfs_file **file);
 

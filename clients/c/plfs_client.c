@@ -11,6 +11,8 @@ enum { NAMES = 0 };
 struct plfs_fs {
     struct plfs_engine engine;
     unsigned char taken[PLFS_HANDLES + 1]; /* actors that a handle has, under the engine's lock */
+    plfs_file *files[PLFS_HANDLES + 1];    /* by their actors, what plfs_unmount frees, under the same lock */
+    uint64_t handles;                      /* how many there may be */
 };
 
 /* Its stamp and size change under the engine's lock. */
@@ -35,7 +37,7 @@ const char *plfs_strerror(int error) {
 
 /* ---- requests */
 
-static int ask(plfs_fs *fs, const struct plfs_asked *asked) { return -plfs_engine_ask(&fs->engine, asked); }
+static int ask(plfs_fs *fs, const struct plfs_asked *asked) { return fs ? -plfs_engine_ask(&fs->engine, asked) : -PLFS_NOT_OPEN; }
 
 static int ask_by_name(plfs_fs *fs, enum plfs_kind kind, const char *name, uint64_t place, uint64_t *out) {
     size_t len = strlen(name);
@@ -62,10 +64,10 @@ static int64_t told_by(plfs_file *file, enum plfs_kind kind) {
 static uint64_t take_actor(plfs_fs *fs) {
     uint64_t actor = 1;
     pthread_mutex_lock(&fs->engine.lock);
-    while (actor <= PLFS_HANDLES && fs->taken[actor]) actor++;
-    if (actor <= PLFS_HANDLES) fs->taken[actor] = 1;
+    while (actor <= fs->handles && fs->taken[actor]) actor++;
+    if (actor <= fs->handles) fs->taken[actor] = 1;
     pthread_mutex_unlock(&fs->engine.lock);
-    return actor <= PLFS_HANDLES ? actor : 0;
+    return actor <= fs->handles ? actor : 0;
 }
 
 static void leave_actor(plfs_fs *fs, uint64_t actor) {
@@ -74,7 +76,20 @@ static void leave_actor(plfs_fs *fs, uint64_t actor) {
     pthread_mutex_unlock(&fs->engine.lock);
 }
 
+/* The mount keeps the handle of this actor, or none. */
+static void keep(plfs_fs *fs, uint64_t actor, plfs_file *file) {
+    pthread_mutex_lock(&fs->engine.lock);
+    fs->files[actor] = file;
+    pthread_mutex_unlock(&fs->engine.lock);
+}
+
+static int is_writer(const plfs_file *file) { return file && !file->reads; }
+
+static int is_reader(const plfs_file *file) { return file && file->reads; }
+
 static int open_as(plfs_fs *fs, enum plfs_kind kind, const char *name, uint32_t workers, plfs_file **file) {
+    *file = NULL;
+    if (!fs) return -PLFS_NOT_OPEN;
     size_t len = strlen(name);
     if (len > PLFS_LONGEST) return -PLFS_BAD_NAME;
     plfs_file *f = calloc(1, sizeof *f);
@@ -94,16 +109,20 @@ static int open_as(plfs_fs *fs, enum plfs_kind kind, const char *name, uint32_t 
         free(f);
         return status;
     }
+    keep(fs, f->actor, f);
     *file = f;
     return 0;
 }
 
 /* ---- mounts */
 
-int plfs_mount(const char *root, uint32_t host, plfs_fs **fs) {
+/* Joins the engine of the folder, where there is one, and else starts one on ROOT. */
+static int mount_by(const char *folder, const char *root, uint32_t host, plfs_fs **fs) {
+    *fs = NULL;
     plfs_fs *mounted = calloc(1, sizeof *mounted);
     if (!mounted) return -PLFS_NO_MEMORY;
-    int error = plfs_engine_start(&mounted->engine, root, host);
+    mounted->handles = folder ? PLFS_HANDLES_AT : PLFS_HANDLES;
+    int error = folder ? plfs_engine_join(&mounted->engine, folder) : plfs_engine_start(&mounted->engine, root, host);
     if (error) {
         free(mounted);
         return -error;
@@ -112,13 +131,23 @@ int plfs_mount(const char *root, uint32_t host, plfs_fs **fs) {
     return 0;
 }
 
+int plfs_mount(const char *root, uint32_t host, plfs_fs **fs) {
+    const char *folder = getenv("PLFS_AT");
+    return mount_by(folder && *folder ? folder : NULL, root, host, fs);
+}
+
+int plfs_mount_at(const char *folder, plfs_fs **fs) { return mount_by(folder, NULL, 0, fs); }
+
 int plfs_unmount(plfs_fs *fs) {
+    if (!fs) return -PLFS_NOT_OPEN;
     int error = plfs_engine_end(&fs->engine);
+    for (uint64_t actor = 0; actor <= PLFS_HANDLES; actor++) free(fs->files[actor]);
     free(fs);
     return -error;
 }
 
 int plfs_damage(plfs_fs *fs, char *item, size_t room, uint64_t *place) {
+    if (!fs) return -PLFS_NOT_OPEN;
     pthread_mutex_lock(&fs->engine.lock);
     size_t len = fs->engine.item_len;
     if (room > 0) {
@@ -136,7 +165,7 @@ int plfs_damage(plfs_fs *fs, char *item, size_t room, uint64_t *place) {
 int plfs_open_write(plfs_fs *fs, const char *name, plfs_file **file) { return open_as(fs, PLFS_OPEN, name, 0, file); }
 
 int64_t plfs_pwrite(plfs_file *file, const void *bytes, size_t n, uint64_t at) {
-    if (file->reads) return -PLFS_NOT_OPEN;
+    if (!is_writer(file)) return -PLFS_NOT_OPEN;
     if (n > INT64_MAX) return -PLFS_BAD_NUMBER;
     if (at > UINT64_MAX - n) return -PLFS_TOO_FAR;
     size_t done = 0;
@@ -152,17 +181,19 @@ int64_t plfs_pwrite(plfs_file *file, const void *bytes, size_t n, uint64_t at) {
 }
 
 uint64_t plfs_stamp(plfs_file *file) {
+    if (!file) return 0;
     pthread_mutex_lock(&file->fs->engine.lock);
     uint64_t stamp = file->stamp;
     pthread_mutex_unlock(&file->fs->engine.lock);
     return stamp;
 }
 
-int64_t plfs_sync(plfs_file *file) { return file->reads ? -PLFS_NOT_OPEN : told_by(file, PLFS_SYNC); }
+int64_t plfs_sync(plfs_file *file) { return is_writer(file) ? told_by(file, PLFS_SYNC) : -PLFS_NOT_OPEN; }
 
 int64_t plfs_close(plfs_file *file) {
     if (!file) return 0;
     int64_t told = told_by(file, file->reads ? PLFS_CLOSE_READ : PLFS_CLOSE);
+    keep(file->fs, file->actor, NULL);
     if (told >= 0) leave_actor(file->fs, file->actor);
     free(file);
     return told;
@@ -171,12 +202,13 @@ int64_t plfs_close(plfs_file *file) {
 /* ---- readers */
 
 int plfs_open_read(plfs_fs *fs, const char *name, uint32_t workers, plfs_file **file) {
+    *file = NULL;
     if (workers < 1 || workers > 16) return -PLFS_BAD_NUMBER;
     return open_as(fs, PLFS_OPEN_READ, name, workers, file);
 }
 
 int64_t plfs_pread(plfs_file *file, void *into, size_t n, uint64_t at) {
-    if (!file->reads) return -PLFS_NOT_OPEN;
+    if (!is_reader(file)) return -PLFS_NOT_OPEN;
     if (n > INT64_MAX || at > UINT64_MAX - n) return -PLFS_BAD_NUMBER;
     size_t done = 0;
     while (done < n) {
@@ -193,19 +225,19 @@ int64_t plfs_pread(plfs_file *file, void *into, size_t n, uint64_t at) {
 }
 
 int plfs_refresh(plfs_file *file) {
-    if (!file->reads) return -PLFS_NOT_OPEN;
+    if (!is_reader(file)) return -PLFS_NOT_OPEN;
     return ask(file->fs, &(struct plfs_asked){.kind = PLFS_REFRESH, .actor = file->actor, .out = &file->size});
 }
 
 int64_t plfs_size(plfs_file *file) {
-    if (!file->reads) return -PLFS_NOT_OPEN;
+    if (!is_reader(file)) return -PLFS_NOT_OPEN;
     pthread_mutex_lock(&file->fs->engine.lock);
     uint64_t size = file->size;
     pthread_mutex_unlock(&file->fs->engine.lock);
     return (int64_t)size;
 }
 
-int64_t plfs_pieces(plfs_file *file) { return file->reads ? told_by(file, PLFS_PIECES) : -PLFS_NOT_OPEN; }
+int64_t plfs_pieces(plfs_file *file) { return is_reader(file) ? told_by(file, PLFS_PIECES) : -PLFS_NOT_OPEN; }
 
 /* ---- files by their names */
 

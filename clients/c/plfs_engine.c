@@ -1,15 +1,19 @@
-/* plfs_engine.c: starts plfs_serve, and sends it requests. Plain C11 and POSIX; no proof speaks of it. */
+/* plfs_engine.c: starts or joins plfs_serve, and sends it requests. Plain C11 and POSIX; no proof speaks of it. */
 #define _GNU_SOURCE
 #include "plfs_engine.h"
 #include "plfs.h"
 
 #include <errno.h>
 #include <fcntl.h>
+#include <limits.h>
+#include <poll.h>
 #include <signal.h>
 #include <spawn.h>
+#include <stdatomic.h>
 #include <stdio.h>
 #include <stdlib.h>
 #include <string.h>
+#include <sys/stat.h>
 #include <sys/uio.h>
 #include <sys/wait.h>
 #include <time.h>
@@ -49,9 +53,9 @@ static size_t lend(int fd, const void *bytes, size_t len) {
     return lent;
 }
 
-/* Sends the head and the bytes. -1 where the engine reads no more. */
+/* Sends the head, where there is one, and the bytes. -1 where the engine reads no more. */
 static int send_parts(int fd, void *head, const void *bytes, size_t len) {
-    struct iovec parts[2] = {{head, HEAD}, {(void *)(uintptr_t)bytes, len}};
+    struct iovec parts[2] = {{head, head ? HEAD : 0}, {(void *)(uintptr_t)bytes, len}};
     int k = 0;
     if (len >= LENT) {
         if (send_parts(fd, head, NULL, 0)) return -1;
@@ -158,12 +162,25 @@ static int take_payload(struct plfs_engine *engine, const struct plfs_asked *a, 
     return take_all(engine->from, a->into, (size_t)len) ? PLFS_GONE : 0;
 }
 
+/* Waits for the first answer of an engine that was joined. Before that engine opens the pipe nothing comes, and no end either. Its end alone says
+ * that there is no place for this process. */
+static int wait_in(const struct plfs_engine *engine) {
+    struct pollfd ends[2] = {{.fd = engine->from, .events = POLLIN}, {.fd = engine->door}};
+    while (poll(ends, 2, -1) < 0) {
+        if (errno != EINTR) return PLFS_GONE;
+    }
+    if (ends[0].revents & POLLIN) return 0;
+    return ends[1].revents ? PLFS_GONE : PLFS_NO_HANDLE;
+}
+
 /* Sends the request, and takes its answer. */
 static int exchange(struct plfs_engine *engine, const struct plfs_asked *a) {
     unsigned char head[HEAD], answer[ANSWER];
     const uint64_t number = ++engine->number, numbers[HEAD / 8] = {a->kind, a->actor, number, a->place, a->extent, a->len};
     for (int i = 0; i < HEAD / 8; i++) put(head + 8 * i, numbers[i]);
     if (send_all(engine->to, head, a->bytes, a->len)) return PLFS_GONE;
+    int kept_out = engine->door >= 0 ? wait_in(engine) : 0;
+    if (kept_out) return kept_out;
     if (take_all(engine->from, answer, ANSWER)) return PLFS_GONE;
     uint64_t status = get(answer + 8), value = get(answer + 16), len = get(answer + 24);
     int error = get(answer) == number ? error_of(a->kind, status, value) : PLFS_STRANGE;
@@ -238,7 +255,8 @@ static int greet(struct plfs_engine *engine) {
     int error = plfs_engine_ask(engine, &(struct plfs_asked){.kind = PLFS_CLOSE_READ});
     if (error == PLFS_NOT_OPEN) return 0;
     int ended = plfs_engine_end(engine);
-    if (error == PLFS_GONE && ended) return ended;
+    /* what an engine says that doesn't mount is no answer, but its status tells why */
+    if ((error == PLFS_GONE && ended) || (error == PLFS_STRANGE && ended && ended != PLFS_GONE)) return ended;
     return error ? error : PLFS_STRANGE;
 }
 
@@ -247,7 +265,7 @@ int plfs_engine_start(struct plfs_engine *engine, const char *root, uint32_t hos
     snprintf(number, sizeof number, "%lu", (unsigned long)host);
     char *words[] = {(char *)(uintptr_t)"plfs_serve", (char *)(uintptr_t)root, number, NULL};
     int to[2], from[2];
-    *engine = (struct plfs_engine){.to = -1};
+    *engine = (struct plfs_engine){.to = -1, .door = -1};
     if (pipe_above(to)) return PLFS_NOT_STARTED;
     if (pipe_above(from)) {
         close(to[0]);
@@ -270,9 +288,100 @@ int plfs_engine_start(struct plfs_engine *engine, const char *root, uint32_t hos
     return PLFS_NOT_STARTED;
 }
 
+/* ---- an engine of several processes */
+
+/* Opens what stands there, where it is a named pipe, with a number above those of the standard streams. */
+static int open_pipe(const char *path, int how) {
+    struct stat is;
+    int low = open(path, how | O_CLOEXEC), end = low;
+    if (low >= 0 && low <= 2) {
+        end = fcntl(low, F_DUPFD_CLOEXEC, 3);
+        close(low);
+    }
+    if (end < 0 || (fstat(end, &is) == 0 && S_ISFIFO(is.st_mode))) return end;
+    close(end);
+    errno = ENXIO;
+    return -1;
+}
+
+/* Makes two named pipes of a name that is this process's own, and writes their paths and that name. */
+static int make_pair(const char *folder, char in[PATH_MAX], char out[PATH_MAX], char name[64]) {
+    static atomic_ulong count;
+    for (int turn = 0; turn < 1000; turn++) {
+        snprintf(name, 64, "%ld-%lu\n", (long)getpid(), atomic_fetch_add(&count, 1));
+        int len = (int)strlen(name) - 1;
+        if (snprintf(in, PATH_MAX, "%s/%.*s.in", folder, len, name) >= PATH_MAX || snprintf(out, PATH_MAX, "%s/%.*s.out", folder, len, name) >= PATH_MAX) {
+            errno = ENAMETOOLONG;
+            return -1;
+        }
+        if (mkfifo(in, 0600) == 0) {
+            if (mkfifo(out, 0600) == 0) return 0;
+            unlink(in);
+        }
+        if (errno != EEXIST) return -1;
+    }
+    return -1;
+}
+
+/* Opens the pipes, announces this process, and is let in. While it reads its own requests' pipe no opening waits. */
+static int enter(struct plfs_engine *engine, const char *in, const char *out, const char *name) {
+    const int own = open_pipe(in, O_RDONLY | O_NONBLOCK);
+    engine->to = open_pipe(in, O_WRONLY);
+    engine->from = open_pipe(out, O_RDONLY | O_NONBLOCK);
+    int error = PLFS_NOT_STARTED;
+    if (own >= 0 && engine->to >= 0 && engine->from >= 0 && fcntl(engine->from, F_SETFL, 0) == 0) {
+        (void)fcntl(engine->to, F_SETPIPE_SZ, PIPE); /* quicker, where the system allows it */
+        (void)fcntl(engine->from, F_SETPIPE_SZ, PIPE);
+        if (send_all(engine->door, NULL, name, strlen(name)) == 0) {
+            error = plfs_engine_ask(engine, &(struct plfs_asked){.kind = PLFS_CLOSE_READ});
+            if (error == PLFS_NOT_OPEN) error = 0;
+        }
+    }
+    if (own >= 0) close(own);
+    return error;
+}
+
+int plfs_engine_join(struct plfs_engine *engine, const char *folder) {
+    char join[PATH_MAX], in[PATH_MAX], out[PATH_MAX], name[64];
+    *engine = (struct plfs_engine){.to = -1, .from = -1, .door = -1};
+    if (snprintf(join, PATH_MAX, "%s/join", folder) >= PATH_MAX) return PLFS_NO_ROOT;
+    engine->door = open_pipe(join, O_WRONLY | O_NONBLOCK); /* which fails where no engine reads it */
+    if (engine->door < 0) return PLFS_NOT_STARTED;
+    int error = PLFS_NOT_STARTED;
+    if (pthread_mutex_init(&engine->lock, NULL) == 0) {
+        if (make_pair(folder, in, out, name) == 0) {
+            error = enter(engine, in, out, name);
+            unlink(in);
+            unlink(out);
+        }
+        if (error) pthread_mutex_destroy(&engine->lock);
+    }
+    close(engine->door);
+    engine->door = -1;
+    if (error) {
+        if (engine->to >= 0) close(engine->to);
+        if (engine->from >= 0) close(engine->from);
+    }
+    return error;
+}
+
+/* Ends the requests, and waits until the engine has closed what is open: then it closes its end of the answers' pipe. */
+static int leave(struct plfs_engine *engine) {
+    char unwanted[4096];
+    ssize_t got;
+    close(engine->to);
+    while ((got = read(engine->from, unwanted, sizeof unwanted)) > 0 || (got < 0 && errno == EINTR)) {}
+    close(engine->from);
+    pthread_mutex_destroy(&engine->lock);
+    return 0;
+}
+
+/* ---- the end */
+
 int plfs_engine_end(struct plfs_engine *engine) {
     int status = 0;
     pid_t ended;
+    if (engine->process == 0) return leave(engine);
     close(engine->to);
     close(engine->from); /* so no answer that nobody takes keeps it from its end */
     while ((ended = waitpid(engine->process, &status, 0)) < 0 && errno == EINTR) {}

@@ -1,4 +1,4 @@
-/* plfs_engine.h: one engine that was started, and requests of it. For plfs_client.c alone. */
+/* plfs_engine.h: one engine that was started or joined, and requests of it. For plfs_client.c alone. */
 #ifndef PLFS_ENGINE_H
 #define PLFS_ENGINE_H
 
@@ -18,7 +18,8 @@ enum { PLFS_ITEM = 256 };
 struct plfs_engine {
     pthread_mutex_t lock; /* a request and its answer go under it, and so does all that follows */
     int to, from;
-    pid_t process;
+    pid_t process; /* 0 where the engine was joined */
+    int door;      /* while this process is not let in: the pipe on which it announced itself, else -1 */
     uint64_t number;  /* of the last request */
     int gone;         /* why no further request is made: 0, or an error */
     size_t item_len;  /* the damage that was told last */
@@ -42,10 +43,14 @@ struct plfs_asked {
 /* Starts an engine on ROOT. 0, or an error of enum plfs_error, not negated. */
 int plfs_engine_start(struct plfs_engine *engine, const char *root, uint32_t host);
 
+/* Joins the engine that serves by this folder. 0, or an error of enum plfs_error, not negated. */
+int plfs_engine_join(struct plfs_engine *engine, const char *folder);
+
 /* Makes the request. 0, or an error of enum plfs_error, not negated. */
 int plfs_engine_ask(struct plfs_engine *engine, const struct plfs_asked *asked);
 
-/* Ends the engine's input, and waits for its end. 0, or the error that its status tells. */
+/* Ends the engine's input, and waits for its end: 0, or the error that its status tells. Of one that was joined it waits until that has closed
+ * what is open, and answers 0. */
 int plfs_engine_end(struct plfs_engine *engine);
 
 #endif

@@ -21,7 +21,7 @@ module plfs
     type(c_ptr) :: handle = c_null_ptr
   end type
 
-  public :: plfs_mount, plfs_unmount, plfs_open_write, plfs_pwrite, plfs_stamp, plfs_sync, plfs_close
+  public :: plfs_mount, plfs_mount_at, plfs_unmount, plfs_open_write, plfs_pwrite, plfs_stamp, plfs_sync, plfs_close
   public :: plfs_open_read, plfs_pread, plfs_refresh, plfs_size, plfs_pieces
   public :: plfs_stat, plfs_trunc, plfs_rename, plfs_flatten, plfs_recover, plfs_strerror
 
@@ -32,6 +32,12 @@ module plfs
       integer(c_int32_t), value :: host
       type(c_ptr), intent(out) :: fs
       integer(c_int) :: c_mount
+    end function
+    function c_mount_at(folder, fs) bind(c, name="plfs_mount_at")
+      import :: c_int, c_char, c_ptr
+      character(kind=c_char), intent(in) :: folder(*)
+      type(c_ptr), intent(out) :: fs
+      integer(c_int) :: c_mount_at
     end function
     function c_unmount(fs) bind(c, name="plfs_unmount")
       import :: c_int, c_ptr
@@ -160,6 +166,13 @@ contains
     chosen = 0
     if (present(host)) chosen = int(host, c_int32_t)
     status = c_mount(ended(root), chosen, fs%handle)
+  end function
+
+  ! Joins the engine that serves the processes of this machine by this folder.
+  integer function plfs_mount_at(folder, fs) result(status)
+    character(*), intent(in) :: folder
+    type(plfs_fs), intent(out) :: fs
+    status = c_mount_at(ended(folder), fs%handle)
   end function
 
   integer function plfs_unmount(fs) result(status)

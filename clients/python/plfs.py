@@ -7,17 +7,21 @@
             file.readinto(buffer)
 
 A mount starts the engine `plfs_serve`: the program that $PLFS_SERVE names, or else the one on the path. A folder belongs to one
-engine at a time. Any thread may call. A request and its answer go under one lock, and that order is the one that all see.
+engine at a time. Several processes share one by `Mount(at=FOLDER)`, or $PLFS_AT: it was started as `plfs_serve ROOT --at FOLDER`. Any thread may call. A request and its answer go under one lock, and that order is the one that all see.
 
 `plfs.open(root, name, mode)` is a file with a mount of its own. Sizes and places are in bytes, stamps in nanoseconds since 1970.
 Buffers are handed to the system as they lie in memory, and have to be contiguous.
 """
 
 import contextlib
+import errno
 import fcntl
 import io
+import itertools
 import operator
 import os
+import select
+import stat
 import struct
 import subprocess
 import threading
@@ -27,6 +31,8 @@ __all__ = ["Error", "Mount", "Reader", "Why", "Writer", "open"]
 OPEN, WRITE, SYNC, CLOSE, OPEN_READ, READ, REFRESH, PIECES, CLOSE_READ, STAT, TRUNC, RENAME, FLATTEN, RECOVER, LIST = range(1, 16)
 # Actors are 0 to HANDLES, and the first makes the statements that need no handle. Bytes of one request: longer ones are several.
 HANDLES, NAMES, LONGEST, PIPE = 255, 0, 1 << 24, 1 << 20
+HANDLES_AT = 15  # where an engine was joined
+COUNT = itertools.count()
 HEAD, ANSWER = struct.Struct("<6Q"), struct.Struct("<4Q")
 MADE, REFUSED, NO_REQUEST, NO_MEMORY, FAULT, DAMAGED = 0, 1, 2, 3, 4, 7
 
@@ -87,13 +93,51 @@ def _pipe():
     return ends
 
 
+def _named_pipe(path, how):
+    """Opens what stands there, where it is a named pipe, with a number above those of the standard streams."""
+    end = os.open(path, how)
+    if end <= 2:
+        low, end = end, fcntl.fcntl(end, fcntl.F_DUPFD_CLOEXEC, 3)
+        os.close(low)
+    if stat.S_ISFIFO(os.fstat(end).st_mode):
+        return end
+    os.close(end)
+    raise OSError(errno.ENXIO, "no named pipe", path)
+
+
+def _pair(folder):
+    """Makes two named pipes of a name of this process's own. Gives that name and their paths."""
+    for k in COUNT:
+        name = f"{os.getpid()}-{k}"
+        paths = f"{folder}/{name}.in", f"{folder}/{name}.out"
+        try:
+            os.mkfifo(paths[0], 0o600)
+        except FileExistsError:
+            continue
+        try:
+            os.mkfifo(paths[1], 0o600)
+            return name.encode(), paths
+        except OSError as error:
+            os.unlink(paths[0])
+            if not isinstance(error, FileExistsError):
+                raise
+
+
 class Mount:
     """A folder, or 1 to 8 of them with colons between, whose files are opened here. It is a context: its end unmounts."""
 
-    def __init__(self, root, host=0, engine=None):
-        """Starts an engine, whose writers are of this host. What is typed to interrupt this program doesn't end it: it has a session of its own."""
-        program = engine or os.environ.get("PLFS_SERVE") or "plfs_serve"
-        self._lock, self._number, self._free, self._gone = threading.Lock(), 0, list(range(HANDLES, 0, -1)), None
+    def __init__(self, root=None, host=0, engine=None, at=None):
+        """Joins the engine that serves by the folder `at`, or else by that of $PLFS_AT, whatever `root` and `host` say. Without one it starts an
+        engine, whose writers are of this host. What is typed to interrupt this program doesn't end it: it has a session of its own."""
+        at = at or os.environ.get("PLFS_AT")
+        self._lock, self._number, self._gone = threading.Lock(), 0, None
+        self._free, self.engine = list(range(HANDLES_AT if at else HANDLES, 0, -1)), None
+        if at:
+            self._join(os.fspath(at))
+        else:
+            self._start(root, host, engine or os.environ.get("PLFS_SERVE") or "plfs_serve")
+
+    def _start(self, root, host, program):
         words, ends = ["plfs_serve", os.fspath(root), str(host)], []
         try:
             ends += _pipe()
@@ -117,7 +161,36 @@ class Mount:
             why = error.why
         if why != Why.NOT_OPEN:
             ended = self._end()
-            raise Error(ENDS.get(ended, why) if why == Why.GONE else why)
+            # what an engine says that doesn't mount is no answer, but its status tells why
+            raise Error(ENDS.get(ended, why) if why in (Why.GONE, Why.STRANGE) else why)
+
+    def _join(self, folder):
+        """Makes two named pipes of a name of its own, announces this process, and is let in. While it reads its own requests' pipe no opening
+        waits. Before the engine opens the pipe of answers nothing comes of it, and no end either."""
+        with contextlib.ExitStack() as ends:
+            try:
+                door = _named_pipe(f"{folder}/join", os.O_WRONLY | os.O_NONBLOCK)  # which fails where no engine reads it
+                ends.callback(os.close, door)
+                name, paths = _pair(folder)
+                for path in paths:
+                    ends.callback(os.unlink, path)
+                ends.callback(os.close, _named_pipe(paths[0], os.O_RDONLY | os.O_NONBLOCK))
+                self._to = _named_pipe(paths[0], os.O_WRONLY)
+                self._from = _named_pipe(paths[1], os.O_RDONLY | os.O_NONBLOCK)
+                os.set_blocking(self._from, True)
+                os.write(door, name + b"\n")
+                self._send(HEAD.pack(CLOSE_READ, NAMES, 0, 0, 0, 0), memoryview(b""))
+            except OSError:
+                raise Error(Why.NOT_STARTED) from None
+            waits = select.poll()
+            waits.register(self._from, select.POLLIN)
+            waits.register(door, 0)
+            came = dict(waits.poll())
+            if not came.get(self._from, 0) & select.POLLIN:
+                os.close(self._to)
+                os.close(self._from)
+                raise Error(Why.GONE if door in came else Why.NO_HANDLE)
+        self._take(memoryview(bytearray(ANSWER.size)))
 
     # ---- requests
 
@@ -225,13 +298,15 @@ class Mount:
         with self._lock:
             if self._to is not None:
                 os.close(self._to)
+                while not self.engine and os.read(self._from, 4096):
+                    pass  # until the engine that was joined has closed what is open, and its end of the pipe
                 os.close(self._from)  # so no answer that nobody takes keeps it from its end
                 self._to = None
             self._gone = self._gone or Why.GONE
-            return self.engine.wait()
+            return self.engine.wait() if self.engine else 0
 
     def close(self):
-        """Syncs and closes what is open, ends the engine and waits for its end."""
+        """Syncs and closes what is open, and ends the engine that was started. Waits until that is done."""
         if self._to is None:
             return
         ended = self._end()

@@ -130,6 +130,45 @@ static void limits(plfs_fs *fs) {
     free(got);
 }
 
+/* Handles and mounts that are NULL, as those are whose call failed. */
+static void nothing(plfs_fs *fs) {
+    plfs_file *file = (plfs_file *)&wrong;
+    plfs_fs *none = (plfs_fs *)&wrong;
+    char byte = 0, *listed = &byte;
+    is(plfs_open_read(fs, "away", 1, &file), -PLFS_NO_FILE);
+    is(file == NULL, 1);
+    is(plfs_pwrite(file, &byte, 1, 0), -PLFS_NOT_OPEN);
+    is(plfs_pread(file, &byte, 1, 0), -PLFS_NOT_OPEN);
+    is(plfs_stamp(file), 0);
+    is(plfs_sync(file), -PLFS_NOT_OPEN);
+    is(plfs_refresh(file), -PLFS_NOT_OPEN);
+    is(plfs_size(file), -PLFS_NOT_OPEN);
+    is(plfs_pieces(file), -PLFS_NOT_OPEN);
+    is(plfs_close(file), 0);
+    is(plfs_mount("", 0, &none), -PLFS_NO_ROOT);
+    is(none == NULL, 1);
+    is(plfs_open_write(none, "f", &file), -PLFS_NOT_OPEN);
+    is(plfs_open_read(none, "f", 1, &file), -PLFS_NOT_OPEN);
+    is(plfs_stat(none, "f"), -PLFS_NOT_OPEN);
+    is(plfs_trunc(none, "f", 0), -PLFS_NOT_OPEN);
+    is(plfs_rename(none, "f", "g"), -PLFS_NOT_OPEN);
+    is(plfs_flatten(none, "f"), -PLFS_NOT_OPEN);
+    is(plfs_recover(none, "f"), -PLFS_NOT_OPEN);
+    is(plfs_list(none, &listed), -PLFS_NOT_OPEN);
+    is(listed == NULL, 1);
+    is(plfs_damage(none, NULL, 0, NULL), -PLFS_NOT_OPEN);
+    is(plfs_unmount(none), -PLFS_NOT_OPEN);
+}
+
+/* Handles that are open as their mount ends, whose memory it frees. */
+static void left_open(plfs_fs *fs) {
+    plfs_file *file;
+    is(plfs_open_write(fs, "left", &file), 0);
+    is(plfs_pwrite(file, "left", 4, 0), 4);
+    is(plfs_open_read(fs, "g", 1, &file), 0);
+    is(plfs_open_write(fs, "left", &file), 0);
+}
+
 /* A file in a container that no container has. */
 static void damaged(const char *root) {
     plfs_fs *fs;
@@ -150,6 +189,7 @@ static void damaged(const char *root) {
     is(place, 0);
     is(plfs_damage(fs, NULL, 0, NULL), strlen("truncs/foreign"));
     is(plfs_stat(fs, "many"), PLFS_LONGEST + 100005);
+    is(plfs_stat(fs, "left"), 4);
     is(plfs_unmount(fs), 0);
     is(unlink(path), 0);
 }
@@ -206,6 +246,8 @@ int main(int count, char **words) {
     readers(fs);
     names(fs);
     limits(fs);
+    nothing(fs);
+    left_open(fs);
     is(plfs_unmount(fs), 0);
     damaged(words[1]);
     mounts(words[1], words[2], words[3]);

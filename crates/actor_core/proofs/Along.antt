@@ -1,7 +1,7 @@
 -- A statement that carries one program makes the calls of that program.
 use Rattle.std.proofs.Common.{ℕ, true, false, List, Option, Some, None, refl, nat_eq}
 use Rattle.std.specs.Prelude.{if◌then◌else◌}
-use Rattle.story.specs.Program.{Program, done, ask}
+use Rattle.mount_model.specs.Program.{Program, done, ask}
 use Rattle.mount_model.specs.declared.call.Call.{Call}
 use Rattle.mount_model.specs.declared.reply.Reply.{Reply}
 use Rattle.flatten_core.specs.Flattening.{flatten_program}

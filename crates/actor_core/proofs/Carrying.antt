@@ -3,9 +3,9 @@ use Rattle.std.proofs.Common.{◌≡◌, ℕ, List, length, nat_eq, arith, true,
 use Rattle.std.specs.Prelude.{if◌then◌else◌, option_map}
 use Rattle.std.proofs.lemmas.Bool.Decides.{nat_tests}
 use Rattle.std.proofs.lemmas.Option.{none-some}
-use Rattle.story.specs.Program.{done, ask}
-use Rattle.story.specs.Process.{asks}
-use Rattle.flow.specs.Running.{unbroken}
+use Rattle.mount_model.specs.Program.{done, ask}
+use Rattle.mount_model.specs.Process.{asks}
+use Rattle.mount_model.specs.Running.{unbroken}
 use Rattle.mount_model.specs.declared.call.Call.TheVariants.{Greet}
 use Rattle.writer_flow.specs.declared.handle.WriterHandle.{WriterHandle}
 use Rattle.writer_flow.specs.declared.handle.WriterOut.{WriterOut}
@@ -19,7 +19,7 @@ use Rattle.actor_core.specs.Endings.{wrote, stopped}
 use Rattle.actor_core.specs.Opened.{reader_refreshed}
 use Rattle.actor_core.specs.Writers.{writes}
 use Rattle.actor_core.specs.Readers.{refreshes}
-use Rattle.flow.specs.Standing.{Standing, ready, asked as out, Rest, over, awaits, next_of, rest_of, replied, Awaits, IsOver}
+use Rattle.mount_model.specs.Standing.{Standing, ready, asked as out, Rest, over, awaits, next_of, rest_of, replied, Awaits, IsOver}
 use Rattle.mount_model.specs.declared.call.Call.{Call}
 use Rattle.mount_model.specs.declared.call.Ask.{Ask}
 use Rattle.mount_model.specs.declared.reply.Reply.{Reply}
@@ -31,7 +31,7 @@ use Rattle.actor_core.specs.declared.kept.Kept.{Kept}
 use Rattle.actor_core.specs.declared.actor.Actor.{Actor}
 use Rattle.actor_core.specs.declared.actor.State.{State}
 use Rattle.actor_core.specs.Standings.{Underway, goes, waits, ready_of, asked_of, busy, greeting, greeting_out, doing_ready, doing_asked, progress_of, state_progress}
-use Rattle.actor_core.specs.declared.actor.State.TheVariants.{Idle, Told, Ready, Asked, HandedOut, Greeting, Greeted}
+use Rattle.actor_core.specs.declared.actor.State.TheVariants.{Idle, Told, Working, HandedOut, Greeting, Greeted}
 use Rattle.script_lang.specs.declared.script.Statement.{Statement}
 use Rattle.actor_core.specs.Statements.{greeted, greeted_work}
 
@@ -140,8 +140,8 @@ not_idle_greeted number (waits k) is = is
 pub idle_so : (number : ℕ) (kept : Kept) (stop : Option Stop) (state : State) → IsIdle (state_progress number kept stop state) → state_progress number kept stop state ≡ idle kept
 idle_so number kept stop Idle is = refl
 idle_so number kept stop (Told line) is = absurd is
-idle_so number kept stop (Ready doing) is = absurd (not_idle number (doing_ready kept stop doing) is)
-idle_so number kept stop (Asked doing) is = absurd (not_idle number (doing_asked kept stop doing) is)
+idle_so number kept stop (Working doing false) is = absurd (not_idle number (doing_ready kept stop doing) is)
+idle_so number kept stop (Working doing true) is = absurd (not_idle number (doing_asked kept stop doing) is)
 idle_so number kept stop (HandedOut listed) is = absurd is
 idle_so number kept stop (Greeting doing) is = absurd (not_idle_greeting number (doing_ready kept stop doing) is)
 idle_so number kept stop (Greeted doing) is = absurd (not_idle_greeted number (doing_ready kept stop doing) is)

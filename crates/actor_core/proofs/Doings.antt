@@ -1,7 +1,7 @@
 -- What holds of each statement at work.
 use Rattle.std.proofs.Common.{◌≡◌, ◌<◌, ◌+◌, ℕ, arith, true, false, Option, Result, Ok, Err, sym, ap, ◌∙◌}
 use Rattle.std.specs.Prelude.{OnOk}
-use Rattle.flow.specs.Standing.{Standing, ready, Rest, rest_of, replied, Awaits}
+use Rattle.mount_model.specs.Standing.{Standing, ready, Rest, rest_of, replied, Awaits}
 use Rattle.mount_model.specs.declared.call.Call.{Call}
 use Rattle.mount_model.specs.declared.reply.Reply.{Reply}
 use Rattle.writer_flow.specs.OpeningStages.{open_standing}

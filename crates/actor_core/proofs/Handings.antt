@@ -1,12 +1,12 @@
 -- How shares are handed out to workers, and how the actor goes on with what they read.
-use Rattle.std.proofs.Common.{◌≡◌, ℕ, List, [], ◌∷◌, map, Option, Some, None, Result, Ok, Err, refl, sym, ap, ◌∙◌, subst}
+use Rattle.std.proofs.Common.{◌≡◌, ℕ, List, [], ◌∷◌, map, Option, Some, None, Result, Ok, Err, refl, sym, ap, ◌∙◌, subst, true, false}
 use Rattle.std.specs.Prelude.{◌≢◌, option_map, IfSome}
 use Rattle.std.proofs.lemmas.Option.{none-some, same_Some}
-use Rattle.story.specs.Program.{Program, done, ask, followed_by}
-use Rattle.flow.specs.declared.stuck.Stuck.{Stuck}
-use Rattle.flow.specs.Running.{asking}
-use Rattle.flow.specs.Standing.{Standing, ready, asked as out, Rest, over, awaits, next_of, rest_of, Awaits, IsOver}
-use Rattle.flow.specs.Replies.{Tries, on_ok}
+use Rattle.mount_model.specs.Program.{Program, done, ask, followed_by}
+use Rattle.mount_model.specs.declared.stuck.Stuck.{Stuck}
+use Rattle.mount_model.specs.Running.{asking}
+use Rattle.mount_model.specs.Standing.{Standing, ready, asked as out, Rest, over, awaits, next_of, rest_of, Awaits, IsOver}
+use Rattle.mount_model.specs.FlowReplies.{Tries, on_ok}
 use Rattle.mount_model.specs.declared.call.Call.{Call}
 use Rattle.mount_model.specs.declared.reply.Reply.{Reply}
 use Rattle.writer_flow.specs.OpeningStages.{open_standing}
@@ -42,7 +42,7 @@ use Rattle.actor_core.specs.declared.kept.Kept.{Kept}
 use Rattle.actor_core.specs.declared.doing.Doing.{Doing}
 use Rattle.actor_core.specs.declared.doing.Doing.TheVariants.{Known, Opening, Writing, Syncing, Closing, Listing, Gathering, Reading, Verifying, Telling, Truncating, Renaming, Recovering, Refreshing, Naming, Flattening}
 use Rattle.actor_core.specs.declared.actor.State.{State}
-use Rattle.actor_core.specs.declared.actor.State.TheVariants.{Idle, Told, Ready, Asked, HandedOut, Greeting, Greeted}
+use Rattle.actor_core.specs.declared.actor.State.TheVariants.{Idle, Told, Working, HandedOut, Greeting, Greeted}
 use Rattle.actor_core.specs.declared.purpose.Purpose.{Purpose}
 use Rattle.actor_core.specs.declared.purpose.Purpose.TheVariants.{Opens, Tells}
 use Rattle.actor_core.specs.Stopping.{carried, stoppable}
@@ -136,11 +136,11 @@ module _ (number : ℕ) (kept : Kept) (stop : Option Stop) where
   none_greeted (waits k) = refl
 
   -- only a statement whose next call is to be made has shares
-  pub not_ready : (state : State) → ((doing : Doing) → state ≢ Ready doing) → handing_of (state_progress number kept stop state) ≡ None
+  pub not_ready : (state : State) → ((doing : Doing) → state ≢ Working doing false) → handing_of (state_progress number kept stop state) ≡ None
   not_ready Idle other = refl
   not_ready (Told line) other = refl
-  not_ready (Ready doing) other = absurd (other doing refl)
-  not_ready (Asked doing) other = none_asked doing
+  not_ready (Working doing false) other = absurd (other doing refl)
+  not_ready (Working doing true) other = none_asked doing
   not_ready (HandedOut listed) other = refl
   not_ready (Greeting doing) other = none_greeting (doing_ready kept stop doing)
   not_ready (Greeted doing) other = none_greeted (doing_ready kept stop doing)
@@ -270,8 +270,8 @@ not_greeted number (waits k) is = is
 pub is_handed : (number : ℕ) (kept : Kept) (stop : Option Stop) (state : State) → IsHanded (state_progress number kept stop state) → ((listed : Listed) → state ≢ HandedOut listed) → ⊥
 is_handed number kept stop Idle is other = is
 is_handed number kept stop (Told line) is other = is
-is_handed number kept stop (Ready doing) is other = not_busy number (doing_ready kept stop doing) is
-is_handed number kept stop (Asked doing) is other = not_busy number (doing_asked kept stop doing) is
+is_handed number kept stop (Working doing false) is other = not_busy number (doing_ready kept stop doing) is
+is_handed number kept stop (Working doing true) is other = not_busy number (doing_asked kept stop doing) is
 is_handed number kept stop (HandedOut listed) is other = other listed refl
 is_handed number kept stop (Greeting doing) is other = not_greeting number (doing_ready kept stop doing) is
 is_handed number kept stop (Greeted doing) is other = not_greeted number (doing_ready kept stop doing) is

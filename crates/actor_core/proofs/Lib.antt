@@ -2,6 +2,7 @@ pub mod Facts
 mod Carrying
 mod Doings
 mod OneMachine
+mod Working
 mod Making
 mod Gatherings
 mod Handings

@@ -2,10 +2,10 @@
 use Rattle.std.proofs.Common.{◌≡◌, List, [], Option, Result, refl, sym, ap, ◌∙◌}
 use Rattle.std.specs.Prelude.{if◌then◌else◌}
 use Rattle.plfs_types.specs.declared.entries.Trunc.{Trunc}
-use Rattle.story.specs.Program.{done, ask, followed_by}
-use Rattle.story.specs.Process.{asks}
-use Rattle.flow.specs.declared.stuck.Stuck.{Stuck}
-use Rattle.flow.specs.Replies.{Tries}
+use Rattle.mount_model.specs.Program.{done, ask, followed_by}
+use Rattle.mount_model.specs.Process.{asks}
+use Rattle.mount_model.specs.declared.stuck.Stuck.{Stuck}
+use Rattle.mount_model.specs.FlowReplies.{Tries}
 use Rattle.index_reader.specs.declared.listing.Listing.{Listing}
 use Rattle.index_reader.specs.declared.sharing.Share.{Share}
 use Rattle.gather_flow.specs.declared.all_read.AllRead.{AllRead}

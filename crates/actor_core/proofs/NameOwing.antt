@@ -1,10 +1,10 @@
 -- The calls that tell of a file, rename it, or list all files owe nothing of the state, and their numbers are in range.
 use Rattle.std.proofs.Common.{ℕ, Bool, true, false, List, [], Option, Some, None, Result, Ok, Err}
-use Rattle.flow.specs.declared.stuck.Stuck.{Stuck}
+use Rattle.mount_model.specs.declared.stuck.Stuck.{Stuck}
 use Rattle.mount_model.specs.Paths.{metadata}
-use Rattle.flow.specs.declared.names.Metadata.{Metadata}
-use Rattle.flow.specs.Listed.{told_by}
-use Rattle.flow.specs.Replies.{Tries, given, on_ok, room_in, failure}
+use Rattle.mount_model.specs.declared.names.Metadata.{Metadata}
+use Rattle.mount_model.specs.FlowListed.{told_by}
+use Rattle.mount_model.specs.FlowReplies.{Tries, given, on_ok, room_in, failure}
 use Rattle.attr_flow.specs.Asking.{lists_truncs, lists_metadata, if_open, lists_open, attr_program}
 use Rattle.attr_flow.specs.Listings.{is_open, metadata_named}
 use Rattle.trunc_rename.specs.Holding.{holder_in, holds}

@@ -1,9 +1,9 @@
 -- Where no line was told none waits.
-use Rattle.std.proofs.Common.{◌≡◌, ℕ, Option, None, refl}
+use Rattle.std.proofs.Common.{◌≡◌, ℕ, Option, None, refl, true, false}
 use Rattle.std.specs.Prelude.{◌≢◌}
 use Rattle.script_lang.specs.declared.line.Line.{Line}
 use Rattle.actor_core.specs.declared.actor.State.{State}
-use Rattle.actor_core.specs.declared.actor.State.TheVariants.{Idle, Told, Ready, Asked, HandedOut, Greeting, Greeted}
+use Rattle.actor_core.specs.declared.actor.State.TheVariants.{Idle, Told, Working, HandedOut, Greeting, Greeted}
 use Rattle.actor_core.specs.declared.kept.Kept.{Kept}
 use Rattle.actor_core.specs.declared.kept.Stop.{Stop}
 use Rattle.actor_core.specs.Progress.{line_taken, waiting_line}
@@ -38,8 +38,8 @@ module _ (number : ℕ) (kept : Kept) (stop : Option Stop) where
   pub no_line : (state : State) → ((line : Line) → state ≢ Told line) → waiting_line (state_progress number kept stop state) ≡ None
   no_line Idle none = refl
   no_line (Told line) none = absurd (none line refl)
-  no_line (Ready doing) none = none_busy number (doing_ready kept stop doing)
-  no_line (Asked doing) none = none_busy number (doing_asked kept stop doing)
+  no_line (Working doing false) none = none_busy number (doing_ready kept stop doing)
+  no_line (Working doing true) none = none_busy number (doing_asked kept stop doing)
   no_line (HandedOut listed) none = refl
   no_line (Greeting doing) none = none_greeting number (doing_ready kept stop doing)
   no_line (Greeted doing) none = none_greeted number (doing_ready kept stop doing)
@@ -47,8 +47,8 @@ module _ (number : ℕ) (kept : Kept) (stop : Option Stop) where
   pub none_taken : (state : State) → ((line : Line) → state ≢ Told line) → line_taken (state_progress number kept stop state) ≡ state_progress number kept stop state
   none_taken Idle none = refl
   none_taken (Told line) none = absurd (none line refl)
-  none_taken (Ready doing) none = same_busy number (doing_ready kept stop doing)
-  none_taken (Asked doing) none = same_busy number (doing_asked kept stop doing)
+  none_taken (Working doing false) none = same_busy number (doing_ready kept stop doing)
+  none_taken (Working doing true) none = same_busy number (doing_asked kept stop doing)
   none_taken (HandedOut listed) none = refl
   none_taken (Greeting doing) none = same_greeting number (doing_ready kept stop doing)
   none_taken (Greeted doing) none = same_greeted number (doing_ready kept stop doing)

@@ -2,8 +2,8 @@
 use Rattle.std.proofs.Common.{◌≡◌, ℕ, Option, Some, None, Result, Ok, Err, refl, sym, ap, ◌∙◌, subst}
 use Rattle.std.specs.Prelude.{◌≢◌, option_map, IfOk, OnOk}
 use Rattle.std.proofs.lemmas.Option.{none-some}
-use Rattle.story.specs.Program.{Program, done, ask}
-use Rattle.flow.specs.Standing.{Standing, ready, asked as out, Rest, over, next_of, rest_of, Awaits, IsOver}
+use Rattle.mount_model.specs.Program.{Program, done, ask}
+use Rattle.mount_model.specs.Standing.{Standing, ready, asked as out, Rest, over, next_of, rest_of, Awaits, IsOver}
 use Rattle.mount_model.specs.declared.call.Call.{Call}
 use Rattle.mount_model.specs.declared.reply.Reply.{Reply}
 use Rattle.attr_flow.specs.declared.attr_flow.AttrFlow.{AttrFlow}

@@ -1,8 +1,8 @@
 -- How telling of a file goes on where somebody has it open.
 use Rattle.std.proofs.Common.{◌≡◌, ℕ, Option, None, Result, Ok, sym, ap, ◌∙◌}
 use Rattle.std.specs.Prelude.{option_map}
-use Rattle.flow.specs.declared.stuck.Stuck.{Stuck}
-use Rattle.flow.specs.Standing.{Standing, ready, over, next_of, rest_of}
+use Rattle.mount_model.specs.declared.stuck.Stuck.{Stuck}
+use Rattle.mount_model.specs.Standing.{Standing, ready, over, next_of, rest_of}
 use Rattle.mount_model.specs.declared.call.Call.{Call}
 use Rattle.mount_model.specs.declared.reply.Reply.{Reply}
 use Rattle.attr_flow.specs.declared.attr_flow.AttrOut.{AttrOut}

@@ -1,8 +1,8 @@
 -- The calls of a writer's programs owe nothing of the state, and their numbers are in range.
 use Rattle.std.proofs.Common.{ℕ, ◌≤◌, List, Bool, true, false, Result, Ok, nat_eq, nat_le, Option, Some}
 use Rattle.std.specs.Prelude.{if◌then◌else◌}
-use Rattle.flow.specs.declared.stuck.Stuck.{Stuck}
-use Rattle.story.specs.Program.{AsksOnly, Program, done, ask, followed_by}
+use Rattle.mount_model.specs.declared.stuck.Stuck.{Stuck}
+use Rattle.mount_model.specs.Program.{AsksOnly, Program, done, ask, followed_by}
 use Rattle.mount_model.specs.declared.call.Call.{Call}
 use Rattle.mount_model.specs.declared.reply.Reply.{Reply}
 use Rattle.mount_model.specs.declared.reply.Reply.TheVariants.{Fault, Room, Entered, Floored, Done, Wrote, Flushed, Synced}

@@ -1,7 +1,7 @@
 -- How a statement ends: what its line says, and what its actor then keeps.
 use Rattle.std.specs.Prelude.{ℕ, true, List, Option, Some, None, Result, Ok, Err}
 use Rattle.plain_file.specs.declared.pieces.Piece.{Piece}
-use Rattle.flow.specs.declared.stuck.Stuck.{Stuck}
+use Rattle.mount_model.specs.declared.stuck.Stuck.{Stuck}
 use Rattle.writer_flow.specs.declared.handle.WriterHandle.{WriterHandle}
 use Rattle.writer_flow.specs.declared.handle.WriterOut.{WriterOut}
 use Rattle.attr_flow.specs.declared.attr.Attr.{Attr}

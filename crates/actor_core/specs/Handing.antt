@@ -1,8 +1,8 @@
 -- The shares of a reader that an actor hands out to workers, and what comes back of them.
 use Rattle.std.specs.Prelude.{◌≡◌, ℕ, List, Option, Some, None, Result}
-use Rattle.story.specs.Program.{Program}
-use Rattle.story.specs.Process.{shares}
-use Rattle.flow.specs.declared.stuck.Stuck.{Stuck}
+use Rattle.mount_model.specs.Program.{Program}
+use Rattle.mount_model.specs.Process.{shares}
+use Rattle.mount_model.specs.declared.stuck.Stuck.{Stuck}
 use Rattle.mount_model.specs.declared.call.Ask.{Ask}
 use Rattle.mount_model.specs.declared.reply.Reply.{Reply}
 use Rattle.index_reader.specs.declared.sharing.Share.{Share}

@@ -15,5 +15,6 @@ pub mod Progress
 pub mod Handing
 pub mod Standings
 pub mod Machines
+pub mod Taking
 pub mod Owed
 pub mod Along

@@ -1,6 +1,6 @@
 -- The one machine of a statement, which makes all of its calls.
-use Rattle.std.specs.Prelude.{◌≡◌, ℕ, Option, Some, None}
-use Rattle.flow.specs.Standing.{rest_of, IsOver}
+use Rattle.std.specs.Prelude.{◌≡◌, ℕ, Option, Some, None, true, false}
+use Rattle.mount_model.specs.Standing.{rest_of, IsOver}
 use Rattle.mount_model.specs.declared.call.Call.{Call}
 use Rattle.writer_flow.specs.OpeningStages.{open_standing}
 use Rattle.writer_flow.specs.WritingStages.{write_standing}
@@ -16,6 +16,8 @@ use Rattle.actor_core.specs.declared.kept.Stop.{Stop}
 use Rattle.actor_core.specs.declared.kept.Kept.{Kept}
 use Rattle.actor_core.specs.declared.doing.Doing.{Doing}
 use Rattle.actor_core.specs.declared.doing.Doing.TheVariants.{Known, Opening, Writing, Syncing, Closing, Listing, Gathering, Reading, Verifying, Telling, Truncating, Renaming, Recovering, Refreshing, Naming, Flattening}
+use Rattle.actor_core.specs.declared.actor.State.{State}
+use Rattle.actor_core.specs.declared.actor.State.TheVariants.{Working}
 use Rattle.actor_core.specs.Stopping.{stoppable}
 use Rattle.actor_core.specs.Naming.{names_standing}
 use Rattle.actor_core.specs.Progress.{IsReady, ask_of, given}
@@ -54,3 +56,19 @@ GoesOn old (Some call) new =
 GoesOn old None new =
     (number : ℕ) (kept : Kept) (stop : Option Stop) → IsReady (busy number (doing_ready kept stop old))
     → IsAtEnd new × (doing_ready kept stop new ≡ doing_ready kept stop old)
+
+-- a statement with one machine is at work, and its next call is to be made
+abbrev pub IsOneReady : State → Type 0
+IsOneReady (Working doing false) = IsOneMachine doing
+IsOneReady _ = ⊥
+
+-- it is, and its machine is at its own end
+abbrev pub IsOneOver : State → Type 0
+IsOneOver (Working doing false) = IsAtEnd doing
+IsOneOver _ = ⊥
+
+-- Its machine goes on so, and its call is out exactly where there is one.
+abbrev pub WorkGoesOn : State → Option Call → State → Type 0
+WorkGoesOn (Working old _) (Some call) (Working new true) = GoesOn old (Some call) new
+WorkGoesOn (Working old _) None (Working new false) = GoesOn old None new
+WorkGoesOn _ _ _ = ⊥

@@ -1,13 +1,13 @@
 -- The names of all files.
 use Rattle.std.specs.Prelude.{List, filter, Result, Ok, Err}
 use Rattle.plfs_types.specs.Names.{is_logical}
-use Rattle.flow.specs.declared.stuck.Stuck.{Stuck}
-use Rattle.story.specs.Program.{done, ask}
+use Rattle.mount_model.specs.declared.stuck.Stuck.{Stuck}
+use Rattle.mount_model.specs.Program.{done, ask}
 use Rattle.mount_model.specs.declared.call.Call.TheVariants.{Rooms as AskRooms}
 use Rattle.mount_model.specs.declared.reply.Reply.{Reply}
 use Rattle.mount_model.specs.declared.reply.Reply.TheVariants.{Rooms}
 use Rattle.mount_model.specs.Paths.{Name}
-use Rattle.flow.specs.Replies.{Tries, failure}
+use Rattle.mount_model.specs.FlowReplies.{Tries, failure}
 
 -- the logical names among these, in their order
 abbrev pub logical_among : List Name → List Name

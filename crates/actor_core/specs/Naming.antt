@@ -1,12 +1,12 @@
 -- Where the call that names all files stands.
 use Rattle.std.specs.Prelude.{ℕ, List, Result}
-use Rattle.flow.specs.declared.stuck.Stuck.{Stuck}
-use Rattle.story.specs.Program.{done}
-use Rattle.flow.specs.Standing.{Standing, ready}
+use Rattle.mount_model.specs.declared.stuck.Stuck.{Stuck}
+use Rattle.mount_model.specs.Program.{done}
+use Rattle.mount_model.specs.Standing.{Standing, ready}
 use Rattle.mount_model.specs.declared.call.Call.{Call}
 use Rattle.mount_model.specs.declared.reply.Reply.{Reply}
 use Rattle.mount_model.specs.Paths.{Name}
-use Rattle.flow.specs.Replies.{Tries}
+use Rattle.mount_model.specs.FlowReplies.{Tries}
 use Rattle.actor_core.specs.declared.names.NamesRead.{NamesRead}
 use Rattle.actor_core.specs.declared.names.NamesRead.TheVariants.{Asking, Told}
 use Rattle.actor_core.specs.Names.{names_program}

@@ -2,9 +2,9 @@
 use Rattle.std.specs.Prelude.{List, Some, None, Result, Ok, Err}
 use Rattle.plfs_types.specs.declared.entries.Trunc.{Trunc}
 use Rattle.plain_file.specs.declared.parts.ReaderParts.{ReaderParts}
-use Rattle.story.specs.Program.{done, followed_by}
-use Rattle.flow.specs.declared.stuck.Stuck.{Stuck}
-use Rattle.flow.specs.Replies.{Tries, on_ok}
+use Rattle.mount_model.specs.Program.{done, followed_by}
+use Rattle.mount_model.specs.declared.stuck.Stuck.{Stuck}
+use Rattle.mount_model.specs.FlowReplies.{Tries, on_ok}
 use Rattle.script_lang.specs.declared.line.Outcome.{Outcome}
 use Rattle.script_lang.specs.declared.line.Outcome.TheVariants.{Reader}
 use Rattle.index_reader.specs.declared.listing.Listing.{Listing}

@@ -1,7 +1,7 @@
 -- What an actor's statement owes.
 use Rattle.std.specs.Prelude.{List, [], ◌∷◌}
-use Rattle.story.specs.Program.{Program, AsksOnly}
-use Rattle.story.specs.Process.{ends, pauses, tells, asks, shares}
+use Rattle.mount_model.specs.Program.{Program, AsksOnly}
+use Rattle.mount_model.specs.Process.{ends, pauses, tells, asks, shares}
 use Rattle.mount_model.specs.declared.call.Call.{Call}
 use Rattle.mount_model.specs.declared.call.Ask.{Ask}
 use Rattle.mount_model.specs.declared.reply.Reply.{Reply}

@@ -1,7 +1,7 @@
 -- How far an actor is with its statement.
 use Rattle.std.specs.Prelude.{ℕ, false, List, Option, Some, None, Result}
-use Rattle.story.specs.Process.{ends, pauses, tells, asks, shares}
-use Rattle.flow.specs.declared.stuck.Stuck.{Stuck}
+use Rattle.mount_model.specs.Process.{ends, pauses, tells, asks, shares}
+use Rattle.mount_model.specs.declared.stuck.Stuck.{Stuck}
 use Rattle.mount_model.specs.declared.call.Ask.{Ask}
 use Rattle.mount_model.specs.declared.reply.Reply.{Reply}
 use Rattle.index_reader.specs.declared.sharing.Share.{Share}

@@ -1,6 +1,6 @@
 -- What a container is gathered for.
 use Rattle.std.specs.Prelude.{ℕ, Option, Result}
-use Rattle.flow.specs.declared.stuck.Stuck.{Stuck}
+use Rattle.mount_model.specs.declared.stuck.Stuck.{Stuck}
 use Rattle.index_reader.specs.declared.listing.Listing.{Listing}
 use Rattle.actor_core.specs.declared.kept.Stop.{Stop}
 use Rattle.actor_core.specs.declared.kept.Kept.{Kept}

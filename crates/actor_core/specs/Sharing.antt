@@ -1,9 +1,9 @@
 -- The shares of a container's droppings, which workers read, or the actor itself.
 use Rattle.std.specs.Prelude.{List, [], map, Option, Some, None, Result}
-use Rattle.story.specs.Process.{shares}
-use Rattle.flow.specs.declared.stuck.Stuck.{Stuck}
-use Rattle.flow.specs.Running.{asking}
-use Rattle.flow.specs.Replies.{Tries, on_ok}
+use Rattle.mount_model.specs.Process.{shares}
+use Rattle.mount_model.specs.declared.stuck.Stuck.{Stuck}
+use Rattle.mount_model.specs.Running.{asking}
+use Rattle.mount_model.specs.FlowReplies.{Tries, on_ok}
 use Rattle.index_reader.specs.declared.opened.OpenReader.{OpenReader}
 use Rattle.index_reader.specs.declared.sharing.Share.{Share}
 use Rattle.gather_flow.specs.Shares.{by_itself}

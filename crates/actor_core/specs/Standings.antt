@@ -1,10 +1,10 @@
 -- Where an actor's fields stand in what it does.
-use Rattle.std.specs.Prelude.{ℕ, ◌+◌, ◌^◌, List, Option, Result}
-use Rattle.story.specs.Process.{asks, ends}
-use Rattle.flow.specs.Standing.{Standing, ready, asked as out, Rest, over, awaits, rest_of, Awaits}
-use Rattle.flow.specs.declared.stuck.Stuck.{Stuck}
-use Rattle.flow.specs.Running.{unbroken}
-use Rattle.flow.specs.Replies.{on_ok}
+use Rattle.std.specs.Prelude.{ℕ, ◌+◌, ◌^◌, List, Option, Result, true, false}
+use Rattle.mount_model.specs.Process.{asks, ends}
+use Rattle.mount_model.specs.Standing.{Standing, ready, asked as out, Rest, over, awaits, rest_of, Awaits}
+use Rattle.mount_model.specs.declared.stuck.Stuck.{Stuck}
+use Rattle.mount_model.specs.Running.{unbroken}
+use Rattle.mount_model.specs.FlowReplies.{on_ok}
 use Rattle.mount_model.specs.declared.call.Call.{Call}
 use Rattle.mount_model.specs.declared.call.Call.TheVariants.{Greet}
 use Rattle.mount_model.specs.declared.reply.Reply.{Reply}
@@ -27,7 +27,7 @@ use Rattle.actor_core.specs.declared.kept.Kept.{Kept}
 use Rattle.actor_core.specs.declared.doing.Doing.{Doing}
 use Rattle.actor_core.specs.declared.doing.Doing.TheVariants.{Known, Opening, Writing, Syncing, Closing, Listing, Gathering, Reading, Verifying, Telling, Truncating, Renaming, Recovering, Refreshing, Naming, Flattening}
 use Rattle.actor_core.specs.declared.actor.State.{State}
-use Rattle.actor_core.specs.declared.actor.State.TheVariants.{Idle, Told, Ready, Asked, HandedOut, Greeting, Greeted}
+use Rattle.actor_core.specs.declared.actor.State.TheVariants.{Idle, Told, Working, HandedOut, Greeting, Greeted}
 use Rattle.actor_core.specs.declared.actor.Actor.{Actor}
 use Rattle.actor_core.specs.Stopping.{carried, carried_on}
 use Rattle.actor_core.specs.Endings.{ending, stopped, opened, wrote, synced, closed, read_from, verified, truncated, renamed, recovered, names_listed, flattened}
@@ -134,8 +134,8 @@ greeting_out number (waits k) = going number ends
 abbrev pub state_progress : ℕ → Kept → Option Stop → State → Progress
 state_progress number kept stop Idle = idle kept
 state_progress number kept stop (Told line) = told line kept
-state_progress number kept stop (Ready doing) = busy number (doing_ready kept stop doing)
-state_progress number kept stop (Asked doing) = busy number (doing_asked kept stop doing)
+state_progress number kept stop (Working doing false) = busy number (doing_ready kept stop doing)
+state_progress number kept stop (Working doing true) = busy number (doing_asked kept stop doing)
 state_progress number kept stop (HandedOut listed) = handed number (with_shares kept stop listed)
 state_progress number kept stop (Greeting doing) = greeting number (doing_ready kept stop doing)
 state_progress number kept stop (Greeted doing) = greeting_out number (doing_ready kept stop doing)
@@ -169,8 +169,7 @@ doing_left (Naming flow) = names_left flow + 1
 abbrev pub state_left : State → ℕ
 state_left Idle = 0
 state_left (Told line) = 0
-state_left (Ready doing) = doing_left doing
-state_left (Asked doing) = doing_left doing
+state_left (Working doing is_out) = doing_left doing
 state_left (HandedOut listed) = shares_bound 0 + 1
 state_left (Greeting doing) = doing_left doing + 1
 state_left (Greeted doing) = doing_left doing + 1

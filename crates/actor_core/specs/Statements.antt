@@ -1,7 +1,7 @@
 -- What each statement does.
 use Rattle.std.specs.Prelude.{Bool, true, false, if◌then◌else◌, Option, None}
-use Rattle.story.specs.Process.{asks}
-use Rattle.flow.specs.Running.{unbroken}
+use Rattle.mount_model.specs.Process.{asks}
+use Rattle.mount_model.specs.Running.{unbroken}
 use Rattle.mount_model.specs.declared.call.Call.TheVariants.{Greet}
 use Rattle.script_lang.specs.declared.script.Statement.{Statement}
 use Rattle.script_lang.specs.declared.script.Statement.TheVariants.{Open, Write, Sync, Close, Ropen, Read, Verify, Map, Refresh, Rclose, Stat, Flatten, Recover, Trunc, Rename, Ls, Stop as Arms}

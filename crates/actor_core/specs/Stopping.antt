@@ -1,8 +1,8 @@
 -- A program that its actor may stop within.
 use Rattle.std.specs.Prelude.{ℕ, ◌-◌, ◌==◌, Bool, false, if◌then◌else◌, Option, Some, None}
-use Rattle.story.specs.Program.{Program, done, ask}
-use Rattle.story.specs.Process.{Process, asks}
-use Rattle.flow.specs.Standing.{Rest, over, awaits}
+use Rattle.mount_model.specs.Program.{Program, done, ask}
+use Rattle.mount_model.specs.Process.{Process, asks}
+use Rattle.mount_model.specs.Standing.{Rest, over, awaits}
 use Rattle.mount_model.specs.declared.call.Call.{Call}
 use Rattle.mount_model.specs.declared.call.Ask.{Ask}
 use Rattle.mount_model.specs.declared.reply.Reply.{Reply}

@@ -1,7 +1,7 @@
 -- What an actor does for one statement.
 use Rattle.std.specs.Prelude.{Result}
-use Rattle.story.specs.Process.{Process, tells, ends}
-use Rattle.flow.specs.declared.stuck.Stuck.{Stuck}
+use Rattle.mount_model.specs.Process.{Process, tells, ends}
+use Rattle.mount_model.specs.declared.stuck.Stuck.{Stuck}
 use Rattle.mount_model.specs.declared.call.Ask.{Ask}
 use Rattle.mount_model.specs.declared.reply.Reply.{Reply}
 use Rattle.index_reader.specs.declared.sharing.Share.{Share}

@@ -27,10 +27,8 @@ pub(crate) enum State {
     Idle,
     /// The statement is at its end, and this is its line.
     Told(Line),
-    /// The next call of the statement is to be made.
-    Ready(Doing),
-    /// A call of it is out.
-    Asked(Doing),
+    /// The statement is at work: a call of it is out, or else its next one is to be made.
+    Working { doing: Doing, is_out: bool },
     /// The shares of the reader that it opens are with workers. The container was listed so.
     HandedOut(Listed),
     /// The actor is to greet before the statement.

@@ -1,6 +1,6 @@
 //! The shares of a reader that workers read.
 ghost use Rattle.std.specs.Prelude.{◌≡◌, ◌≤◌, ◌+◌, List, None, Result as AResult, IfOk, OnOk};
-ghost use Rattle.flow.specs.declared.stuck.Stuck.{Stuck as AStuck};
+ghost use Rattle.mount_model.specs.declared.stuck.Stuck.{Stuck as AStuck};
 ghost use Rattle.index_reader.specs.declared.sharing.Share.{Share as AShare};
 ghost use Rattle.actor_core.specs.Progress.{IsReady, going};
 ghost use Rattle.actor_core.specs.Handing.{IsHandedOut, IsHanded, with_results};
@@ -11,9 +11,9 @@ ghost use Rattle.gather_flow.specs.Gathering.{shares_bound};
 use crate::actor::{Actor, State};
 use crate::doing::Doing;
 use crate::purpose::Purpose;
-use flow::{Flow, Stuck};
 use gather_flow::{Gathering, Listed, WorkList, works};
 use index_reader::{OpenRead, Share};
+use mount_model::{Flow, Stuck};
 use outcomes::stuck_outcome;
 use plfs_types::NoMemory;
 
@@ -27,7 +27,13 @@ impl Actor {
         ensures left { OnOk result (calls_left self.new ≤ calls_left self.old) }
     {
         match self.state_taken() {
-            State::Ready(doing) => self.hand_out(doing),
+            State::Working { doing, is_out } => {
+                if is_out {
+                    self.set(State::Working { doing, is_out });
+                    return Ok(None);
+                }
+                self.hand_out(doing)
+            }
             other => {
                 self.set(other);
                 Ok(None)
@@ -57,7 +63,10 @@ impl Actor {
         match doing {
             Doing::Listing { flow, purpose } => self.hand_out_for(flow, purpose),
             other => {
-                self.set(State::Ready(other));
+                self.set(State::Working {
+                    doing: other,
+                    is_out: false,
+                });
                 Ok(None)
             }
         }
@@ -75,12 +84,18 @@ impl Actor {
             Purpose::Opens { workers } => match self.stop {
                 None => self.hand_out_shares(flow, workers),
                 Some(_) => {
-                    self.set(State::Ready(Doing::Listing { flow, purpose }));
+                    self.set(State::Working {
+                        doing: Doing::Listing { flow, purpose },
+                        is_out: false,
+                    });
                     Ok(None)
                 }
             },
             Purpose::Tells => {
-                self.set(State::Ready(Doing::Listing { flow, purpose }));
+                self.set(State::Working {
+                    doing: Doing::Listing { flow, purpose },
+                    is_out: false,
+                });
                 Ok(None)
             }
         }
@@ -106,7 +121,10 @@ impl Actor {
         if let Some(call) = call {
             drop(call);
             let purpose = Purpose::Opens { workers };
-            self.set(State::Ready(Doing::Listing { flow, purpose }));
+            self.set(State::Working {
+                doing: Doing::Listing { flow, purpose },
+                is_out: false,
+            });
             return Ok(None);
         }
         match flow.out() {
@@ -125,7 +143,10 @@ impl Actor {
             }
             Err(because) => {
                 let outcome = stuck_outcome(because);
-                self.set(State::Ready(Doing::Known(outcome)));
+                self.set(State::Working {
+                    doing: Doing::Known(outcome),
+                    is_out: false,
+                });
                 Ok(None)
             }
         }
@@ -140,11 +161,17 @@ impl Actor {
             Ok(share) => {
                 let flow = Gathering::behind(self.alloc, listed, share)?;
                 let purpose = Purpose::Opens { workers: 1 };
-                self.set(State::Ready(Doing::Gathering { flow, purpose }));
+                self.set(State::Working {
+                    doing: Doing::Gathering { flow, purpose },
+                    is_out: false,
+                });
             }
             Err(because) => {
                 let outcome = stuck_outcome(because);
-                self.set(State::Ready(Doing::Known(outcome)));
+                self.set(State::Working {
+                    doing: Doing::Known(outcome),
+                    is_out: false,
+                });
             }
         }
         Ok(())

@@ -1,7 +1,7 @@
 //! The machine of the statement at work.
-ghost use Rattle.std.specs.Prelude.{◌≡◌, ◌≤◌, IfOk, IfSome, OnOk, option_map};
+ghost use Rattle.std.specs.Prelude.{◌≡◌, ◌≤◌, ◌↔◌, IfOk, IfSome, IsTrue, OnOk, option_map};
 ghost use Rattle.mount_model.specs.Step.{IsOwed, OwedBy};
-ghost use Rattle.flow.specs.Standing.{next_of, rest_of};
+ghost use Rattle.mount_model.specs.Standing.{next_of, rest_of};
 ghost use Rattle.actor_core.specs.Stopping.{stoppable as stoppable_of};
 ghost use Rattle.actor_core.specs.Progress.{IsReady, ask_of, given, line_of, told};
 ghost use Rattle.index_reader.specs.Covered.{AreByWriter as AreCoversByWriter};
@@ -9,16 +9,15 @@ ghost use Rattle.index_reader.specs.Hosts.{AreByWriter as AreHostsByWriter};
 ghost use Rattle.actor_core.specs.Endings.{ending, opened as opening_ends};
 ghost use Rattle.actor_core.specs.Opened.{reader_refreshed};
 ghost use Rattle.actor_core.specs.Work.{finishes};
-ghost use Rattle.actor_core.specs.Standings.{progress_of, calls_left, busy, goes, doing_ready, doing_left};
-ghost use Rattle.actor_core.specs.Machines.{IsOneMachine, IsAtEnd, GoesOn};
+ghost use Rattle.actor_core.specs.Standings.{progress_of, calls_left, busy, goes, doing_ready, doing_left, state_left};
+ghost use Rattle.actor_core.specs.Machines.{IsOneMachine, IsAtEnd, GoesOn, IsOneReady, IsOneOver, WorkGoesOn};
 
 use crate::actor::{Actor, State};
 use crate::doing::Doing;
 use crate::kept::Stop;
 use crate::stopping::stoppable;
-use flow::{Flow, Stuck};
 use index_reader::OpenReader;
-use mount_model::{Ask, Call};
+use mount_model::{Ask, Call, Flow, Stuck};
 use outcomes::{
     close_outcome, flatten_outcome, list_outcome, read_outcome, reader_outcome, recover_outcome,
     rename_outcome, stuck_outcome, sync_outcome, truncate_outcome, verify_outcome, write_outcome,
@@ -46,8 +45,9 @@ pub(crate) fn next_ask<F: Flow + Drop>(
 }
 
 impl Actor {
-    /// The next call of the statement at work, or its end.
+    /// The next call of a statement that has not one machine, or its end.
     pub(crate) fn next_call(&mut self, doing: Doing) -> Result<Option<Ask>, NoMemory>
+        requires other { IsOneMachine doing → ⊥ }
         requires ready { IsReady (busy self.old.number (doing_ready self.old.kept self.old.stop doing)) }
         ensures ask { IfOk result (λ ask. ask ≡ ask_of (busy self.old.number (doing_ready self.old.kept self.old.stop doing))) }
         ensures owed { IfOk result (λ ask. IfSome ask IsOwed) }
@@ -62,7 +62,7 @@ impl Actor {
             Doing::Listing { flow, purpose } => self.next_listing(flow, purpose),
             Doing::Gathering { flow, purpose } => self.next_gathering(flow, purpose),
             Doing::Telling(flow) => self.next_telling(flow),
-            other => self.next_of(other),
+            _ => unreachable!(),
         }
     }
 
@@ -75,32 +75,72 @@ impl Actor {
         self.set(State::Told(Line { number, outcome }));
     }
 
-    /// The next call of the one machine of a statement, or the statement's end.
-    fn next_of(&mut self, doing: Doing) -> Result<Option<Ask>, NoMemory>
-        requires one { IsOneMachine doing }
-        requires ready { IsReady (busy self.old.number (doing_ready self.old.kept self.old.stop doing)) }
-        ensures ask { IfOk result (λ ask. ask ≡ ask_of (busy self.old.number (doing_ready self.old.kept self.old.stop doing))) }
+    /// The next call of the one machine of a statement, or the statement's end. Until that end its machine stays where it is.
+    pub(crate) fn next_of(&mut self) -> Result<Option<Ask>, NoMemory>
+        requires one { IsOneReady self.old.state }
+        requires ready { IsReady (progress_of self.old) }
+        ensures ask { IfOk result (λ ask. ask ≡ ask_of (progress_of self.old)) }
         ensures owed { IfOk result (λ ask. IfSome ask IsOwed) }
-        ensures goes_on { OnOk result (progress_of self.new ≡ given (busy self.old.number (doing_ready self.old.kept self.old.stop doing))) }
-        ensures left { OnOk result (calls_left self.new ≤ doing_left doing) }
+        ensures goes_on { OnOk result (progress_of self.new ≡ given (progress_of self.old)) }
+        ensures left { OnOk result (calls_left self.new ≤ calls_left self.old) }
     {
-        let mut next = doing;
-        match asked(&mut next) {
-            Ok(Some(call)) => {
-                let ask = stoppable(self.stop, call);
-                self.set(State::Asked(next));
-                Ok(Some(ask))
-            }
-            Ok(None) => {
-                let outcome = self.finished(next)?;
+        match one_asked(&mut self.state)? {
+            Some(call) => Ok(Some(stoppable(self.stop, call))),
+            None => self.end(),
+        }
+    }
+
+    /// The statement ends as its one machine did.
+    fn end(&mut self) -> Result<Option<Ask>, NoMemory>
+        requires { IsOneOver self.old.state }
+        ensures ask { IfOk result (λ ask. ask ≡ ask_of (progress_of self.old)) }
+        ensures goes_on { OnOk result (progress_of self.new ≡ given (progress_of self.old)) }
+        ensures left { OnOk result (calls_left self.new ≡ 0) }
+    {
+        match self.state_taken() {
+            State::Working { doing, .. } => {
+                let outcome = self.finished(doing)?;
                 self.tell(outcome);
                 Ok(None)
             }
-            Err(why) => {
-                drop(next);
-                Err(why)
-            }
+            _ => unreachable!(),
         }
+    }
+}
+
+/// Whether a statement with one machine is to make its next call.
+pub(crate) fn is_one_ready(state: &State) -> bool
+    ensures { IsTrue result ↔ IsOneReady state.now }
+{
+    match state {
+        State::Working { doing, is_out } => !*is_out && is_one_machine(doing),
+        _ => false,
+    }
+}
+
+fn is_one_machine(doing: &Doing) -> bool
+    ensures { IsTrue result ↔ IsOneMachine doing.now }
+{
+    !matches!(
+        doing,
+        Doing::Known(_) | Doing::Listing { .. } | Doing::Gathering { .. } | Doing::Telling(_)
+    )
+}
+
+/// Asks the one machine of a statement for its next call, which is out then.
+fn one_asked(state: &mut State) -> Result<Option<Call>, NoMemory>
+    requires { IsOneReady state.old }
+    ensures goes_on { IfOk result (λ call. WorkGoesOn state.old call state.new) }
+    ensures owed { IfOk result (λ call. IfSome call OwedBy) }
+    ensures left { OnOk result (state_left state.new ≡ state_left state.old) }
+{
+    match state {
+        State::Working { doing, is_out } => {
+            let call = asked(doing)?;
+            *is_out = call.is_some();
+            Ok(call)
+        }
+        _ => unreachable!(),
     }
 }
 

@@ -1,11 +1,10 @@
 //! The names of all files.
 ghost use Rattle.std.specs.Prelude.{◌≡◌};
-ghost use Rattle.flow.specs.Standing.{next_of, ready};
+ghost use Rattle.mount_model.specs.Standing.{next_of, ready};
 ghost use Rattle.actor_core.specs.Names.{logical_among, names_program, names_told};
 ghost use Rattle.actor_core.specs.Naming.{names_standing, names_left};
 
-use flow::{Flow, Stuck, failure};
-use mount_model::{Call, Reply};
+use mount_model::{Call, Flow, Reply, Stuck, failure};
 use plfs_types::{NameList, NoMemory};
 use std::mem;
 

@@ -11,10 +11,9 @@ use crate::doing::Doing;
 use crate::machines::next_ask;
 use crate::purpose::Purpose;
 use crate::stopping::stoppable;
-use flow::Flow;
 use gather_flow::{AllRead, Called, Gathering, Listed};
 use index_reader::OpenRead;
-use mount_model::Ask;
+use mount_model::{Ask, Flow};
 use outcomes::{reader_outcome, stat_outcome, stuck_outcome};
 use plfs_types::NoMemory;
 use std::mem;
@@ -33,10 +32,13 @@ impl Actor {
     {
         let (next, asked) = next_ask(flow, self.stop)?;
         if let Some(ask) = asked {
-            self.set(State::Asked(Doing::Listing {
-                flow: next,
-                purpose,
-            }));
+            self.set(State::Working {
+                doing: Doing::Listing {
+                    flow: next,
+                    purpose,
+                },
+                is_out: true,
+            });
             return Ok(Some(ask));
         }
         match next.out() {
@@ -63,10 +65,13 @@ impl Actor {
     {
         match flow.next(self.alloc)? {
             Called::Asks(call, asking) => {
-                self.set(State::Asked(Doing::Gathering {
-                    flow: asking,
-                    purpose,
-                }));
+                self.set(State::Working {
+                    doing: Doing::Gathering {
+                        flow: asking,
+                        purpose,
+                    },
+                    is_out: true,
+                });
                 Ok(Some(stoppable(self.stop, call)))
             }
             Called::Over(Ok(all)) => {

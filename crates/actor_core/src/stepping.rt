@@ -6,9 +6,12 @@ ghost use Rattle.script_lang.specs.Ranges.{FitsActor, FitsStatement};
 ghost use Rattle.actor_core.specs.declared.actor.State.TheVariants.{Idle};
 ghost use Rattle.actor_core.specs.Progress.{idle, fresh, IsIdle, IsReady, IsAsked, begun, ask_of, given, with_reply, waiting_line, line_taken};
 ghost use Rattle.actor_core.specs.Standings.{progress_of, calls_left};
+ghost use Rattle.actor_core.specs.Machines.{IsOneReady};
 
 use crate::actor::{Actor, State};
 use crate::kept::Kept;
+use crate::machines::is_one_ready;
+use crate::taking::is_working;
 use mount_model::{Ask, Call, Reply};
 use plfs_types::NoMemory;
 use script_lang::{ActorDecl, Line, Statement};
@@ -49,7 +52,10 @@ impl Actor {
         let doing = self.start(statement)?;
         self.number = number;
         if greeted {
-            self.set(State::Ready(doing));
+            self.set(State::Working {
+                doing,
+                is_out: false,
+            });
         } else {
             self.set(State::Greeting(doing));
         }
@@ -88,24 +94,42 @@ impl Actor {
         ensures goes_on { OnOk result (progress_of self.new ≡ given (progress_of self.old)) }
         ensures left { OnOk result (calls_left self.new ≤ calls_left self.old) }
     {
+        if is_one_ready(&self.state) {
+            self.next_of()
+        } else {
+            self.next_other()
+        }
+    }
+
+    // The same, unless a statement with one machine is to make its next call.
+    fn next_other(&mut self) -> Result<Option<Ask>, NoMemory>
+        requires other { IsOneReady self.old.state → ⊥ }
+        requires ready { IsReady (progress_of self.old) }
+        ensures ask { IfOk result (λ ask. ask ≡ ask_of (progress_of self.old)) }
+        ensures owed { IfOk result (λ ask. IfSome ask IsOwed) }
+        ensures goes_on { OnOk result (progress_of self.new ≡ given (progress_of self.old)) }
+        ensures left { OnOk result (calls_left self.new ≤ calls_left self.old) }
+    {
         match self.state_taken() {
             State::Idle => Ok(None),
             State::Told(line) => {
                 self.set(State::Told(line));
                 Ok(None)
             }
-            State::Ready(doing) => self.next_call(doing),
+            State::Working { doing, is_out } => {
+                if is_out {
+                    // Where a call is out, nobody asks for a further one.
+                    self.set(State::Working { doing, is_out });
+                    return Ok(None);
+                }
+                self.next_call(doing)
+            }
             State::Greeting(doing) => {
                 self.set(State::Greeted(doing));
                 Ok(Some(Ask {
                     call: Call::Greet,
                     stop: None,
                 }))
-            }
-            // Where a call is out, nobody asks for a further one.
-            State::Asked(doing) => {
-                self.set(State::Asked(doing));
-                Ok(None)
             }
             State::Greeted(doing) => {
                 self.set(State::Greeted(doing));
@@ -130,17 +154,29 @@ impl Actor {
             drop(reply);
             return Err(NoMemory);
         }
+        if is_working(&self.state) {
+            return self.take_reply(reply);
+        }
         match self.state_taken() {
-            // In each of these a call of the statement's machine is out.
-            State::Asked(doing) => self.take_reply(doing, reply),
-            State::Ready(doing) => self.take_reply(doing, reply),
-            State::Greeting(doing) => self.take_reply(doing, reply),
+            // A call of the statement's machine is out, as it would be behind a greeting.
+            State::Greeting(doing) => {
+                self.set(State::Working {
+                    doing,
+                    is_out: false,
+                });
+                self.take_reply(reply)
+            }
             State::Greeted(doing) => {
                 drop(reply);
-                self.set(State::Ready(doing));
+                self.set(State::Working {
+                    doing,
+                    is_out: false,
+                });
                 Ok(())
             }
-            State::Idle | State::Told(_) | State::HandedOut(_) => unreachable!(),
+            State::Idle | State::Told(_) | State::HandedOut(_) | State::Working { .. } => {
+                unreachable!()
+            }
         }
     }
 

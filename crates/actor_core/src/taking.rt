@@ -1,49 +1,66 @@
 //! How the statement at work goes on with a reply.
-ghost use Rattle.std.specs.Prelude.{◌≡◌, ◌<◌, ℕ, false, Option, OnOk};
+ghost use Rattle.std.specs.Prelude.{◌≡◌, ◌<◌, ◌↔◌, ℕ, false, Option, IsTrue, OnOk};
 ghost use Rattle.actor_core.specs.declared.kept.Kept.{Kept as AKept};
 ghost use Rattle.actor_core.specs.declared.kept.Stop.{Stop as AStop};
 ghost use Rattle.actor_core.specs.Stopping.{is_due as due_test, one_nearer as nearer};
-ghost use Rattle.flow.specs.Standing.{ready, replied, Awaits};
+ghost use Rattle.mount_model.specs.Standing.{ready, replied, Awaits};
 ghost use Rattle.gather_flow.specs.Gathering.{gather_standing, gather_rest, gather_left};
 ghost use Rattle.actor_core.specs.Progress.{IsAsked, with_reply};
-ghost use Rattle.actor_core.specs.Standings.{AwaitsReply, progress_of, calls_left, busy, doing_ready, doing_asked, doing_left};
+ghost use Rattle.actor_core.specs.Standings.{AwaitsReply, progress_of, calls_left, busy, doing_ready, doing_asked, doing_left, state_left};
+ghost use Rattle.actor_core.specs.Taking.{IsWorking, HasCallOut, GoesOnWith};
 
 use crate::actor::{Actor, State};
 use crate::doing::Doing;
 use crate::stopping::{is_due, one_nearer};
-use flow::{Flow, Stuck};
 use gather_flow::Gathering;
-use mount_model::Reply;
+use mount_model::{Flow, Reply, Stuck};
 use plfs_types::NoMemory;
 use script_lang::Outcome;
 use std::mem;
 
+/// Whether the statement is at work, and greets no more.
+pub(crate) fn is_working(state: &State) -> bool
+    ensures { IsTrue result ↔ IsWorking state.now }
+{
+    matches!(state, State::Working { .. })
+}
+
 impl Actor {
     /// Goes on with the reply to the call of the statement at work, or stops.
-    pub(crate) fn take_reply(&mut self, doing: Doing, reply: Reply) -> Result<(), NoMemory>
-        requires asked { IsAsked (busy self.old.number (doing_asked self.old.kept self.old.stop doing)) }
-        ensures goes_on { OnOk result (progress_of self.new ≡ with_reply (busy self.old.number (doing_asked self.old.kept self.old.stop doing)) reply) }
-        ensures left { OnOk result (calls_left self.new < doing_left doing) }
+    pub(crate) fn take_reply(&mut self, reply: Reply) -> Result<(), NoMemory>
+        requires working { IsWorking self.old.state }
+        requires asked { IsAsked (progress_of self.old) }
+        ensures goes_on { OnOk result (progress_of self.new ≡ with_reply (progress_of self.old) reply) }
+        ensures left { OnOk result (calls_left self.new < calls_left self.old) }
     {
         if is_due(self.stop) {
-            drop(doing);
             drop(reply);
             self.kept.gone = true;
-            self.set(State::Ready(Doing::Known(Outcome::Stopped)));
+            self.set(State::Working {
+                doing: Doing::Known(Outcome::Stopped),
+                is_out: false,
+            });
             return Ok(());
         }
-        let mut doing = doing;
-        match reply_taken(&mut doing, reply) {
-            Ok(()) => {
-                self.stop = one_nearer(self.stop);
-                self.set(State::Ready(doing));
-                Ok(())
-            }
-            Err(why) => {
-                drop(doing);
-                Err(why)
-            }
+        work_taken(&mut self.state, reply)?;
+        self.stop = one_nearer(self.stop);
+        Ok(())
+    }
+}
+
+/// The statement at work takes the reply to its call, where it is.
+fn work_taken(state: &mut State, reply: Reply) -> Result<(), NoMemory>
+    requires { HasCallOut state.old }
+    ensures goes_on { OnOk result (GoesOnWith reply state.old state.new) }
+    ensures left { OnOk result (state_left state.new < state_left state.old) }
+{
+    match state {
+        State::Working { doing, is_out } => {
+            reply_taken(doing, reply)?;
+            *is_out = false;
+            Ok(())
         }
+        _ => unreachable!(),
     }
 }
 

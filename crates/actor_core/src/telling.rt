@@ -9,9 +9,8 @@ use crate::doing::Doing;
 use crate::machines::next_ask;
 use crate::purpose::Purpose;
 use attr_flow::{AttrFlow, AttrOut};
-use flow::Flow;
 use index_reader::OpenRead;
-use mount_model::Ask;
+use mount_model::{Ask, Flow};
 use outcomes::{stat_outcome, stuck_outcome};
 use plfs_types::NoMemory;
 
@@ -25,7 +24,10 @@ impl Actor {
     {
         let (next, asked) = next_ask(flow, self.stop)?;
         if let Some(ask) = asked {
-            self.set(State::Asked(Doing::Telling(next)));
+            self.set(State::Working {
+                doing: Doing::Telling(next),
+                is_out: true,
+            });
             return Ok(Some(ask));
         }
         match next.out() {

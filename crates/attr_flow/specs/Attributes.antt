@@ -3,8 +3,8 @@ use Rattle.std.specs.Prelude.{List}
 use Rattle.plfs_types.specs.declared.entries.Trunc.{Trunc}
 use Rattle.plain_file.specs.Size.{size_from}
 use Rattle.flat_format.specs.declared.flat.Flat.{Flat}
-use Rattle.flow.specs.declared.names.Metadata.{Metadata}
-use Rattle.flow.specs.Order.{metadata_by_writer, truncs_by_stamp}
+use Rattle.mount_model.specs.declared.names.Metadata.{Metadata}
+use Rattle.mount_model.specs.Order.{metadata_by_writer, truncs_by_stamp}
 use Rattle.attr_flow.specs.declared.attr.Attr.{Attr}
 use Rattle.attr_flow.specs.Sizes.{cached_size}
 use Rattle.attr_flow.specs.Shares.{shares_left, shares_covered, stored_in}

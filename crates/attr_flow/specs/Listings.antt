@@ -1,15 +1,15 @@
 -- What the names of the listings tell.
 use Rattle.std.specs.Prelude.{Bool, true, false, if◌then◌else◌, List, [], ◌∷◌, ◌++◌, Result, Ok}
 use Rattle.plfs_types.specs.declared.entries.Trunc.{Trunc}
-use Rattle.flow.specs.declared.stuck.Stuck.{Stuck}
+use Rattle.mount_model.specs.declared.stuck.Stuck.{Stuck}
 use Rattle.mount_model.specs.declared.reply.Reply.{Reply}
 use Rattle.mount_model.specs.Paths.{Name, metadata, truncs}
 use Rattle.container_layout.specs.Paths.{openhosts}
-use Rattle.flow.specs.declared.names.Metadata.{Metadata}
-use Rattle.flow.specs.declared.names.OpenEntry.{OpenEntry}
-use Rattle.flow.specs.Names.{meta_in, trunc_in, open_in}
-use Rattle.flow.specs.Replies.{is_no_folder}
-use Rattle.flow.specs.Listed.{known, told_by}
+use Rattle.mount_model.specs.declared.names.Metadata.{Metadata}
+use Rattle.mount_model.specs.declared.names.OpenEntry.{OpenEntry}
+use Rattle.mount_model.specs.Names.{meta_in, trunc_in, open_in}
+use Rattle.mount_model.specs.FlowReplies.{is_no_folder}
+use Rattle.mount_model.specs.FlowListed.{known, told_by}
 
 -- whether there is an entry of a writer, or was one before
 abbrev pub has_entry : List Name → Bool → Result Bool Stuck

@@ -2,7 +2,7 @@
 use Rattle.std.specs.Prelude.{ℕ, max, if◌then◌else◌, List, [], ◌∷◌, Option}
 use Rattle.plfs_types.specs.declared.entries.Trunc.{Trunc}
 use Rattle.plain_file.specs.Size.{last_trunc, size_given, is_after}
-use Rattle.flow.specs.declared.names.Metadata.{Metadata}
+use Rattle.mount_model.specs.declared.names.Metadata.{Metadata}
 
 -- the greatest end that writers left whose last stamp is above that of the truncate
 abbrev pub end_left_after : Option Trunc → List Metadata → ℕ

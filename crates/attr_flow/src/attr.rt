@@ -10,8 +10,8 @@ ghost use Rattle.attr_flow.specs.Attributes.{cached as cached_of, gathered as ga
 
 use crate::sizes::cached_size;
 use flat_format::Flat;
-use flow::{Metadata, MetadataList, metadata_by_writer, truncs_by_stamp};
 use interval_merge::size;
+use mount_model::{Metadata, MetadataList, metadata_by_writer, truncs_by_stamp};
 use plfs_types::{Cover, NoMemory, ShareBytes, ShareBytesList, TruncList};
 use std::alloc::Global;
 

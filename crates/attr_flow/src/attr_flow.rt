@@ -1,14 +1,13 @@
 //! The machine that tells of a file.
 ghost use Rattle.std.specs.Prelude.{◌≡◌, ◌<◌, IfOk};
-ghost use Rattle.flow.specs.Standing.{ready, next_of, rest_of, replied, Awaits};
+ghost use Rattle.mount_model.specs.Standing.{ready, next_of, rest_of, replied, Awaits};
 ghost use Rattle.attr_flow.specs.Asking.{attr_program};
 ghost use Rattle.attr_flow.specs.Stages.{asking, calls_left, attr_standing, attr_left};
 
 use crate::attr::{Attr, cached};
 use crate::listings::{is_open, listed_metadata, listed_truncs};
 use container_layout::{metadata, openhosts, truncs};
-use flow::{Flow, MetadataList, Stuck, failure, room_in};
-use mount_model::{Call, Look, Reply};
+use mount_model::{Call, Flow, Look, MetadataList, Reply, Stuck, failure, room_in};
 use plfs_types::{LogicalName, NoMemory};
 use std::alloc::Global;
 use std::mem;

@@ -2,7 +2,7 @@
 //! truncates.
 //!
 //! The crate owns the machine that tells this from the names that closed writers left, where nobody has the file open,
-//! and the same of a gathered index. It stands on `flow`, on `interval_merge`, which owns the size, and on
+//! and the same of a gathered index. It stands on `mount_model`, on `interval_merge`, which owns the size, and on
 //! `flat_format` for what was gathered.
 #![tactic(auto)]
 

@@ -1,15 +1,14 @@
 //! What the names of the listings tell.
 ghost use Rattle.std.specs.Prelude.{◌≡◌, [], IfOk, false as no_entry};
-ghost use Rattle.flow.specs.Listed.{told_by};
+ghost use Rattle.mount_model.specs.FlowListed.{told_by};
 ghost use Rattle.mount_model.specs.Paths as paths;
 ghost use Rattle.attr_flow.specs.Listings.{has_entry as has_entry_in, is_open as is_open_by, metadata_named, truncs_named};
 
 use container_layout::{metadata, openhosts, truncs};
-use flow::{
-    MetadataList, Stuck, damage, file_in, is_no_folder, meta_in, names_in, open_in, trouble,
+use mount_model::{
+    MetadataList, Reply, Stuck, damage, file_in, is_no_folder, meta_in, names_in, open_in, trouble,
     trunc_in,
 };
-use mount_model::Reply;
 use plfs_types::{Name, NoMemory, TruncList};
 use std::alloc::Global;
 

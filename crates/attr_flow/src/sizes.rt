@@ -2,8 +2,8 @@
 ghost use Rattle.std.specs.Prelude.{◌≡◌};
 ghost use Rattle.attr_flow.specs.Sizes.{cached_size as size_of};
 
-use flow::Metadata;
 use interval_merge::{last_of, wrote_after};
+use mount_model::Metadata;
 use plfs_types::Trunc;
 
 /// The size that the last truncate gave, or the greatest end that was left after it, whichever is greater.

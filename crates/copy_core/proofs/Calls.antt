@@ -1,7 +1,7 @@
 -- A copying that ended so, or that was broken off, is calls of caller 0.
 use Rattle.std.proofs.Common.{◌≡◌, ℕ, Bool, true, false, List, [], ◌∷◌, ◌++◌, Option, Some, None, Result, Ok, Err, refl, sym, subst}
-use Rattle.story.specs.Program.{Program}
-use Rattle.flow.specs.declared.stuck.Stuck.{Stuck}
+use Rattle.mount_model.specs.Program.{Program}
+use Rattle.mount_model.specs.declared.stuck.Stuck.{Stuck}
 use Rattle.edge_io.specs.Source.{Given}
 use Rattle.mount_model.specs.declared.call.Call.{Call}
 use Rattle.mount_model.specs.declared.reply.Reply.{Reply}
@@ -12,9 +12,9 @@ use Rattle.mount_core.specs.Memory.{HadMemory}
 use Rattle.mount_core.proofs.Memory.{memory_both, none_refused, refused_last}
 use Rattle.lone_flow.specs.Driving.{AreMade, BeginsToMake, Makes}
 use Rattle.writer_flow.specs.declared.handle.WriterHandle.{WriterHandle}
-use Rattle.pack_core.proofs.Looked.{made_both}
-use Rattle.pack_puts.specs.Calling.{HasCalled}
-use Rattle.pack_puts.specs.Settling.{BeginsToClose, BeginsToSettle, Closes, Settles, to_close, to_sync}
+use Rattle.lone_flow.proofs.SmallReads.Looked.{made_both}
+use Rattle.lone_flow.specs.Calling.{HasCalled}
+use Rattle.lone_flow.specs.Settling.{BeginsToClose, BeginsToSettle, Closes, Settles, to_close, to_sync}
 use Rattle.copy_core.specs.declared.copying.Copied.{Copied}
 use Rattle.copy_core.specs.declared.writing.Placing.{Placing}
 use Rattle.copy_core.specs.declared.writing.Step.TheVariants as step
@@ -70,7 +70,7 @@ full_whole : (handle : WriterHandle) (start : State) (old : Given) (last : Placi
 full_whole handle start old last end new w = each_whole w.blocks (beginning handle) start last end w.writes
 
 stopped_whole : (placing : Placing) (start : State) (old : Given) (why : Stuck) (end : State) (new : Given) → Steps placing start old (step.Stopped why) end new → WasWhole start end
-stopped_whole placing start old why end new (block, is_block, handed, one) = written_so placing block start _ end one
+stopped_whole placing start old why end new (block, ending, is_block, filled, one) = written_so placing block start _ end one
 
 up_to_whole : (handle : WriterHandle) (start : State) (old : Given) (why : Stuck) (end : State) (new : Given) → WritesUpTo handle start old why end new → WasWhole start end
 up_to_whole handle start old why end new (stuck last between mid w one) = whole_both start between end (full_whole handle start old last between mid w) (stopped_whole last between mid why end new one)
@@ -118,7 +118,7 @@ clear_begun true name start end begins = begun_called _ start end begins
 
 step_begun : (placing : Placing) (start : State) (old : Given) (end : State) (new : Given) → BeginsStep placing start old end new → HasCalled start end
 step_begun placing start old end new (to_read same still) = whole_called start end (whole_same start end still)
-step_begun placing start old end new (to_write_block block is_block handed begins) = begun_called _ start end begins
+step_begun placing start old end new (to_write_block block ending is_block filled begins) = begun_called _ start end begins
 
 writes_begun : (handle : WriterHandle) (start : State) (old : Given) (end : State) (new : Given) → BeginsToWrite handle start old end new → HasCalled start end
 writes_begun handle start old end new b = called_behind start b.between end (full_whole handle start old b.last b.between b.mid b.written) (step_begun b.last b.between b.mid end new b.next)

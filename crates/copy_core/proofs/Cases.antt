@@ -1,6 +1,6 @@
 -- The ends of writes, for those that can't name their types.
 use Rattle.std.proofs.Common.{◌≡◌, ℕ, Bool, Option, Some, None, Result, Ok, Err, refl, sym, ap}
-use Rattle.flow.specs.declared.stuck.Stuck.{Stuck}
+use Rattle.mount_model.specs.declared.stuck.Stuck.{Stuck}
 use Rattle.writer_flow.specs.declared.handle.WriterHandle.{WriterHandle}
 use Rattle.copy_core.specs.declared.writing.Placing.{Placing}
 use Rattle.copy_core.specs.declared.writing.Written.{Written}

@@ -1,10 +1,10 @@
 -- A name that is free, or whose file is cut to nothing, by the calls for it.
 use Rattle.std.proofs.Common.{◌≡◌, ℕ, List, Result, sym, subst}
-use Rattle.story.specs.Program.{AsksOnly}
-use Rattle.story.specs.Safe.{IsSafe}
-use Rattle.flow.specs.declared.stuck.Stuck.{Stuck}
-use Rattle.flow.specs.Running.{asking}
-use Rattle.flow.specs.Standing.{Standing, ready}
+use Rattle.mount_model.specs.Program.{AsksOnly}
+use Rattle.mount_model.specs.Safe.{IsSafe}
+use Rattle.mount_model.specs.declared.stuck.Stuck.{Stuck}
+use Rattle.mount_model.specs.Running.{asking}
+use Rattle.mount_model.specs.Standing.{Standing, ready}
 use Rattle.mount_model.specs.declared.call.Call.{Call}
 use Rattle.mount_model.specs.declared.reply.Reply.{Reply}
 use Rattle.mount_model.specs.Paths.{Name}
@@ -14,7 +14,7 @@ use Rattle.mount_sound.specs.Owed.{Permits}
 use Rattle.mount_sound.specs.Sound.{IsFine}
 use Rattle.trunc_rename.specs.Truncating.{truncate_program}
 use Rattle.lone_flow.specs.Driving.{MayDrive}
-use Rattle.pack_core.specs.Free.{IsFreeCall}
+use Rattle.lone_flow.specs.Free.{IsFreeCall}
 use Rattle.copy_core.specs.Clearing.{free_program}
 
 pub free_free : (name : Name) → AsksOnly IsFreeCall (free_program name)

@@ -5,7 +5,7 @@ use Rattle.plfs_types.specs.Counts.{HasRisen}
 use Rattle.plfs_types.specs.declared.bytes.TheConstants.{MAX_BLOCK}
 use Rattle.edge_io.specs.Source.{Given, HandsOver}
 use Rattle.mount_model.specs.State.{State}
-use Rattle.flow.specs.declared.stuck.Stuck.{Stuck}
+use Rattle.mount_model.specs.declared.stuck.Stuck.{Stuck}
 use Rattle.writer_flow.specs.declared.handle.WriterHandle.{WriterHandle}
 use Rattle.copy_core.specs.declared.reading.Ending.{Ending}
 use Rattle.copy_core.specs.declared.reading.Ending.TheVariants.{AtEnd, Failed, Full}
@@ -102,12 +102,12 @@ full_written : (placing : Placing) (bytes : List ℕ) (start : State) (told : Wr
 full_written placing bytes start told end long (some_bytes some w) = w
 full_written placing bytes start told end long (no_bytes none is over) = (let short : length bytes ≡ 0 = ap (λ (bs : List ℕ). length bs) none in absurd (omega (arith, long, short)))
 
-stopped_so : (placing : Placing) (bytes : List ℕ) (start : State) (why : Stuck) (end : State) (old new : Given) → length bytes ≤ MAX_BLOCK → HandsOver bytes old.left new.left → WritesBytes placing bytes start (Stopped why) end → Steps placing start old (step.Stopped why) end new
-stopped_so placing bytes start why end old new few handed (some_bytes some w) = (bytes, (some, few), handed, w)
-stopped_so placing bytes start why end old new few handed (no_bytes none is over) = absurd (cc)
+stopped_so : (placing : Placing) (bytes : List ℕ) (ending : Ending) (start : State) (why : Stuck) (end : State) (old new : Given) → HasFilled bytes ending old new → WritesBytes placing bytes start (Stopped why) end → Steps placing start old (step.Stopped why) end new
+stopped_so placing bytes ending start why end old new h (some_bytes some w) = (bytes, ending, (some, no_longer bytes ending old new h), h, w)
+stopped_so placing bytes ending start why end old new h (no_bytes none is over) = absurd (cc)
 
 pub steps_so : (placing : Placing) (bytes : List ℕ) (ending : Ending) (wrote : Wrote) (start : State) (old : Given) (end : State) (new : Given) → HasFilled bytes ending old new → WritesBytes placing bytes start wrote end → Steps placing start old (step_as ending wrote) end new
-steps_so placing bytes ending (Stopped why) start old end new h w = stopped_so placing bytes start why end old new (no_longer bytes ending old new h) h.handed w
+steps_so placing bytes ending (Stopped why) start old end new h w = stopped_so placing bytes ending start why end old new h w
 steps_so placing bytes Full (Made next) start old end new h w = (bytes, h.ends.0, h.handed, h.ends.1, full_written placing bytes start (Made next) end h.ends.0 w)
 steps_so placing bytes AtEnd (Made next) start old end new h w = (bytes, h.ends.0, h.handed, (h.ends.1, h.ends.2), w)
 steps_so placing bytes Failed (Made next) start old end new h w = (bytes, h.ends.0, h.handed, h.ends.1, w)

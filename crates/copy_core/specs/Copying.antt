@@ -3,11 +3,11 @@ use Rattle.std.specs.Prelude.{◌≡◌, ℕ, Bool, Result, Ok, Err}
 use Rattle.edge_io.specs.Source.{Given}
 use Rattle.mount_model.specs.Paths.{Name}
 use Rattle.mount_model.specs.State.{State}
-use Rattle.flow.specs.declared.stuck.Stuck.{Stuck}
+use Rattle.mount_model.specs.declared.stuck.Stuck.{Stuck}
 use Rattle.lone_flow.specs.Driving.{BeginsToMake, Makes}
 use Rattle.writer_flow.specs.declared.handle.WriterHandle.{WriterHandle}
 use Rattle.writer_flow.specs.Opening.{open_program}
-use Rattle.pack_puts.specs.Settling.{BeginsToSettle, Settles}
+use Rattle.lone_flow.specs.Settling.{BeginsToSettle, Settles}
 use Rattle.copy_core.specs.declared.copying.Copied.{Copied}
 use Rattle.copy_core.specs.declared.writing.Placing.{Placing}
 use Rattle.copy_core.specs.declared.writing.Written.{Written}

@@ -6,8 +6,8 @@ use Rattle.plfs_types.specs.declared.limits.TheConstants.{MAX_SIZE}
 use Rattle.edge_io.specs.Source.{Given, HandsOver}
 use Rattle.mount_model.specs.declared.reply.Refusal.TheVariants.{TooFar}
 use Rattle.mount_model.specs.State.{State}
-use Rattle.flow.specs.declared.stuck.Stuck.{Stuck}
-use Rattle.flow.specs.declared.stuck.Stuck.TheVariants.{Fault, Refused}
+use Rattle.mount_model.specs.declared.stuck.Stuck.{Stuck}
+use Rattle.mount_model.specs.declared.stuck.Stuck.TheVariants.{Fault, Refused}
 use Rattle.lone_flow.specs.Driving.{BeginsToMake, Makes}
 use Rattle.writer_flow.specs.declared.handle.WriterHandle.{WriterHandle}
 use Rattle.writer_flow.specs.declared.handle.WriterOut.{WriterOut}
@@ -22,6 +22,7 @@ use Rattle.copy_core.specs.declared.writing.Written.TheVariants as written
 use Rattle.copy_core.specs.declared.writing.Wrote.{Wrote}
 use Rattle.copy_core.specs.declared.writing.Wrote.TheVariants.{Made, Stopped}
 use Rattle.copy_core.specs.Blocks.{AreBlocks, AreFull, IsBlock, joined}
+use Rattle.copy_core.specs.Reading.{HasFilled}
 use Rattle.edge_io.specs.Source.{IsAtEnd}
 
 -- what the end of a write comes to: the writer, and the place behind the block
@@ -60,19 +61,20 @@ step_as Full (Made next) = step.More next
 step_as AtEnd (Made next) = step.Last next true
 step_as Failed (Made next) = step.Last next false
 
--- A full block was read and written. Or the last bytes were, behind which the source ended or failed. Or the write of a block ended in a trouble.
+-- A full block was read and written. Or the last bytes were, behind which the source ended or failed. Or a block was read, whose reading ended so, and its write
+-- ended in a trouble.
 abbrev pub Steps : Placing → State → Given → Step → State → Given → Type 0
 Steps placing start old (step.More next) end new =
     (block : List ℕ) × (length block ≡ MAX_BLOCK) × HandsOver block old.left new.left × (new.faults ≡ old.faults) × IsWritten placing block start (Made next) end
 Steps placing start old (step.Last last is_whole) end new =
     (bytes : List ℕ) × (length bytes < MAX_BLOCK) × HandsOver bytes old.left new.left × EndsAs is_whole old new × WritesBytes placing bytes start (Made last) end
 Steps placing start old (step.Stopped why) end new =
-    (block : List ℕ) × IsBlock block × HandsOver block old.left new.left × IsWritten placing block start (Stopped why) end
+    (block : List ℕ) × (ending : Ending) × IsBlock block × HasFilled block ending old new × IsWritten placing block start (Stopped why) end
 
--- Memory was refused before anything was read, or in the write of the block that was.
+-- Memory was refused before anything was read, or in the write of a block, whose reading ended so.
 pub data BeginsStep (placing : Placing) (start : State) (old : Given) (end : State) (new : Given) : Type 0 where
   to_read : new ≡ old → end ≡ start → BeginsStep placing start old end new
-  to_write : (block : List ℕ) → IsBlock block → HandsOver block old.left new.left → BeginsToMake (write_program placing.handle placing.at block) start end → BeginsStep placing start old end new
+  to_write : (block : List ℕ) (ending : Ending) → IsBlock block → HasFilled block ending old new → BeginsToMake (write_program placing.handle placing.at block) start end → BeginsStep placing start old end new
 
 -- ---- all blocks
 

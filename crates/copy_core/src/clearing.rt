@@ -1,19 +1,17 @@
 //! The name of a file that is to be made.
 ghost use Rattle.std.specs.Prelude.{◌≡◌, ◌<◌, IfOk, OnErr};
-ghost use Rattle.flow.specs.Standing.{next_of, ready};
+ghost use Rattle.mount_model.specs.Standing.{next_of, ready};
 ghost use Rattle.mount_sound.specs.Sound.{IsFine};
 ghost use Rattle.lone_flow.specs.Driving.{BeginsToMake, Makes};
 ghost use Rattle.trunc_rename.specs.Truncating.{truncate_program};
 ghost use Rattle.copy_core.specs.Clearing.{BeginsToClear, Clears, cleared_as, cleared_behind, free_as, free_program, freeing};
 
 use edge_io::Clock;
-use flow::{Flow, Stuck, failure};
-use holding_laws::a_truncate_is_always_allowed;
-use lone_flow::drive;
+use lone_flow::{drive, drive_freely};
 use mount_core::Mount;
-use mount_model::{Call, Refusal, Reply};
-use pack_core::drive_freely;
+use mount_model::{Call, Flow, Refusal, Reply, Stuck, failure};
 use plfs_types::{LogicalName, NoMemory};
+use recovery_laws::a_truncate_is_always_allowed;
 use store_api::Store;
 use trunc_rename::TruncFlow;
 

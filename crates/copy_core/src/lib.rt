@@ -2,7 +2,7 @@
 //! opened, the source's bytes are written block by block, and the writer is synced and closed.
 //!
 //! The crate owns which machines follow which, how a source is read as blocks, and what comes of it. It stands on the machines of
-//! `writer_flow` and `trunc_rename`, on `lone_flow` and `pack_core`, which drive a machine, and on `pack_puts`, which syncs and
+//! `writer_flow` and `trunc_rename`, on `lone_flow` and `lone_flow`, which drive a machine, and on `lone_flow`, which syncs and
 //! closes a writer.
 #![tactic(auto)]
 

@@ -9,10 +9,9 @@ ghost use Rattle.copy_core.specs.Writing.{BeginsStep, BeginsToWrite, IsWritten, 
 
 use crate::reading::{Ending, read_block};
 use edge_io::{Clock, Source};
-use flow::Stuck;
+use lone_flow::drive_freely;
 use mount_core::Mount;
-use mount_model::Refusal;
-use pack_core::drive_freely;
+use mount_model::{Refusal, Stuck};
 use plfs_types::{Block, Bytes, MAX_SIZE, NoMemory};
 use std::alloc::Global;
 use store_api::Store;

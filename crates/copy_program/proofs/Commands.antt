@@ -1,7 +1,10 @@
 -- Words that are a command, and words that are none.
-use Rattle.std.proofs.Common.{◌≡◌, ℕ, ◌≤◌, ◌-◌, Bool, List, [], ◌∷◌, length, take, drop, get_or, Option, refl, sym, ap, ◌∙◌, subst, arith, codes}
+use Rattle.std.proofs.Common.{◌≡◌, ℕ, ◌+◌, ◌≤◌, ◌-◌, Bool, List, [], ◌∷◌, length, take, drop, get_or, Option, refl, sym, ap, ◌∙◌, subst, arith, codes}
 use Rattle.std.proofs.lemmas.List.{take_all}
 use Rattle.std.specs.Prelude.{IfNone, IfSome}
+use Rattle.store_api.specs.Acts.{Stored}
+use Rattle.plfs_program.specs.UnitTrees.{AskForUnits}
+use Rattle.command_line.specs.declared.commands.Command.TheVariants as asked
 use Rattle.copy_program.specs.declared.words.CopyCommand.{CopyCommand}
 use Rattle.copy_program.specs.declared.words.CopyCommand.TheVariants.{Put, Get}
 use Rattle.copy_program.specs.Words.{AreOptions, IsCopyCommand}
@@ -70,3 +73,23 @@ no_get name options some (Get n) (is, logical) = (let none : length options ≡ 
 pub no_verb : (verb name : List ℕ) (options : List (List ℕ)) → (verb ≡ codes "put" → ⊥) → (verb ≡ codes "get" → ⊥) → (command : CopyCommand) → IsCopyCommand (verb ∷ name ∷ options) command → ⊥
 no_verb verb name options no_put no_get (Put n host over) (rest, is, logical, are) = no_put (first_of verb name (codes "put") n options rest is)
 no_verb verb name options no_put no_get (Get n) (is, logical) = no_get (first_of verb name (codes "get") n options [] is)
+
+-- ---- a file that is written out
+
+first_word : List (List ℕ) → List ℕ
+first_word [] = []
+first_word (word ∷ words) = word
+
+first_length : (words : List (List ℕ)) (word : List ℕ) (more : List (List ℕ)) → words ≡ word ∷ more → length (first_word words) ≡ length word
+unfolding first_word
+first_length words word more is = ap (λ (ws : List (List ℕ)). length (first_word ws)) is
+
+apart : {X : Type 0} (n a b : ℕ) → n ≡ a → n ≡ b → 1 + a ≤ b → X
+apart n a b is other less = absurd (omega (arith, is, other, less))
+
+-- the words of `cat` ask for no small file
+pub cat_asks_for_none : (name : List ℕ) (words : List (List ℕ)) (stored : Stored) → words ≡ codes "cat" ∷ name ∷ [] → AskForUnits words stored
+cat_asks_for_none name words stored is (asked.Pack container region) file spelled of = apart (length (first_word words)) 3 4 (first_length words (codes "cat") _ is) (first_length words (codes "pack") _ spelled.0) (omega arith)
+cat_asks_for_none name words stored is (asked.Unpack container small) file spelled of = apart (length (first_word words)) 3 6 (first_length words (codes "cat") _ is) (first_length words (codes "unpack") _ spelled.0) (omega arith)
+cat_asks_for_none name words stored is (asked.Names container) file spelled of = apart (length (first_word words)) 3 5 (first_length words (codes "cat") _ is) (first_length words (codes "names") _ spelled.0) (omega arith)
+cat_asks_for_none name words stored is other file spelled of = absurd (cc)

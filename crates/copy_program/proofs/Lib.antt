@@ -1,3 +1,1 @@
 mod Commands
-mod Imports
-mod PutCourses

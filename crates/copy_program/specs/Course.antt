@@ -6,7 +6,7 @@ use Rattle.plfs_program.specs.Course.{Course}
 use Rattle.program_ends.specs.Ends.{Ends, IsSaid, IsUntouched}
 use Rattle.copy_program.specs.declared.words.CopyCommand.{CopyCommand}
 use Rattle.copy_program.specs.declared.words.CopyCommand.TheVariants.{Put, Get}
-use Rattle.copy_program.specs.Putting.{PutCourse}
+use Rattle.put_program.specs.Putting.{PutCourse}
 use Rattle.copy_program.specs.Words.{IsCopyCommand}
 
 abbrev pub usage_line : List ℕ

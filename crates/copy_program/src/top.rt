@@ -1,5 +1,5 @@
 //! The whole of a run: words, mount, work, output, status.
-ghost use Rattle.std.specs.Prelude.{◌≡◌, ◌∷◌, [], ℕ, List, Option, IfOk, codes, option_map};
+ghost use Rattle.std.specs.Prelude.{◌≡◌, ◌≢◌, ◌∷◌, [], ℕ, List, Option, IfOk, codes, option_map};
 ghost use Rattle.edge_io.specs.Source.{Given};
 ghost use Rattle.program_ends.specs.Ends.{ends_of};
 ghost use Rattle.program_ends.specs.SoundTrees.{LeavesSoundTree, TellsSoundTree};
@@ -7,13 +7,13 @@ ghost use Rattle.copy_program.specs.Course.{CopyCourse, GetCourse};
 ghost use Rattle.copy_program.specs.Words.{IsCopyCommand};
 ghost use Rattle.copy_program.specs.declared.words.CopyCommand.{CopyCommand as Asked};
 
-use crate::put_run::put;
 use crate::words::CopyCommand;
 use edge_io::{Clock, Sink, Source};
 use mount_sound::a_failed_mounting_leaves_a_sound_tree;
 use plfs_program::single;
 use plfs_types::{LogicalName, NoMemory, Word};
 use program_ends::{Ended, ends, say};
+use put_program::put;
 use std::alloc::Global;
 use std::str;
 use store_api::Store;
@@ -46,6 +46,7 @@ fn get<S: Store + Drop, C: Clock + Drop, I: Source, O: Sink>(
     clock: C,
 ) -> Ended<S>
     ensures course { GetCourse name (I.given input.old) (I.given input.new) (ends_of (C.times clock) (O.taking out.old) (O.taking out.new) (S.stored store) (option_map S.stored result.store)) result.status }
+    ensures undamaged { TellsSoundTree (S.stored store) → result.status ≢ 7 }
     ensures sound { TellsSoundTree (S.stored store) → LeavesSoundTree (option_map S.stored result.store) }
 {
     let Ok(words) = cat_words(alloc, name) else {
@@ -58,6 +59,7 @@ fn get<S: Store + Drop, C: Clock + Drop, I: Source, O: Sink>(
 fn refuse<S: Store, O: Sink>(out: &mut O, store: S) -> Ended<S>
     ensures course { (words : List (List ℕ)) (given : Given) (times : Option (List ℕ)) → ((command : Asked) → IsCopyCommand words command → ⊥)
         → CopyCourse words given given (ends_of times (O.taking out.old) (O.taking out.new) (S.stored store) (option_map S.stored result.store)) result.status }
+    ensures status { result.status ≡ 2 }
     ensures sound { TellsSoundTree (S.stored store) → LeavesSoundTree (option_map S.stored result.store) }
 {
     say(out, USAGE);
@@ -71,7 +73,8 @@ fn refuse<S: Store, O: Sink>(out: &mut O, store: S) -> Ended<S>
 /// What else breaks it off is the line with number 0. A file that is there is written over only where that is said, and else
 /// refused. `get` writes a file out, as `cat` of `plfs` does. Other words print the usage line.
 ///
-/// Where the store told a sound tree a sound tree is left.
+/// A fault of the store is told only where its count of faults has risen. Where the store told a sound tree, no damage is told, and a
+/// sound tree is left.
 pub fn copy<S: Store + Drop, C: Clock + Drop, I: Source, O: Sink>(
     alloc: Global,
     words: &[Word],
@@ -81,6 +84,7 @@ pub fn copy<S: Store + Drop, C: Clock + Drop, I: Source, O: Sink>(
     clock: C,
 ) -> Ended<S>
     ensures course { CopyCourse words.now (I.given input.old) (I.given input.new) (ends_of (C.times clock) (O.taking out.old) (O.taking out.new) (S.stored store) (option_map S.stored result.store)) result.status }
+    ensures undamaged { TellsSoundTree (S.stored store) → result.status ≢ 7 }
     ensures sound { TellsSoundTree (S.stored store) → LeavesSoundTree (option_map S.stored result.store) }
 {
     a_failed_mounting_leaves_a_sound_tree();

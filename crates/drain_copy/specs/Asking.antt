@@ -9,7 +9,7 @@ use Rattle.mount_model.specs.declared.call.Look.{Look}
 use Rattle.mount_model.specs.declared.call.Look.TheVariants.{Top, List as ListFolder, Length, Read}
 use Rattle.mount_model.specs.declared.reply.Reply.{Reply}
 use Rattle.mount_model.specs.declared.reply.Reply.TheVariants.{Fault, Looked, NoMemory}
-use Rattle.story.specs.Program.{Program, done, ask}
+use Rattle.mount_model.specs.Program.{Program, done, ask}
 use Rattle.mount_model.specs.Making.{Told}
 
 -- It ends so; or it calls the source, and goes on with the reply; or it makes a step at the target, and goes on with what that told.

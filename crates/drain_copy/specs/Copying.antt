@@ -7,7 +7,7 @@ use Rattle.plfs_types.specs.declared.names.Path.{Path}
 use Rattle.container_layout.specs.Paths.{hostdir_of}
 use Rattle.store_api.specs.Step.{create, make_folder, sync, write_at}
 use Rattle.index_entry.specs.Spelling.{spelling_all}
-use Rattle.flow.specs.Replies.{bytes_in, damage, trouble}
+use Rattle.mount_model.specs.FlowReplies.{bytes_in, damage, trouble}
 use Rattle.mount_model.specs.declared.call.Call.TheVariants.{Look}
 use Rattle.mount_model.specs.declared.call.Look.TheVariants.{Read}
 use Rattle.mount_model.specs.declared.reply.Reply.{Reply}

@@ -2,7 +2,7 @@
 -- room of marks, the marks, the container, the writers by ascending id, and last the truncates.
 use Rattle.std.specs.Prelude.{ℕ, true, false, List, [], ◌∷◌, Option, Some, None, Result, Err}
 use Rattle.store_api.specs.Step.{create, find_room, make_room}
-use Rattle.flow.specs.declared.stuck.Stuck.{Stuck}
+use Rattle.mount_model.specs.declared.stuck.Stuck.{Stuck}
 use Rattle.mount_model.specs.declared.call.Call.TheVariants.{Find, SyncDropping}
 use Rattle.mount_model.specs.Paths.{Name, mark_path, new_files, new_folders}
 use Rattle.store_api.specs.Names.{marks_folder}

@@ -3,9 +3,9 @@ use Rattle.std.specs.Prelude.{ℕ, [], Option, Some, None, Result, Ok, Err}
 use Rattle.plfs_types.specs.declared.names.Path.{Path}
 use Rattle.store_api.specs.declared.step.Answer.{Answer}
 use Rattle.store_api.specs.declared.step.Answer.TheVariants.{Absent, Made, NoFolder, Number, Old}
-use Rattle.flow.specs.declared.stuck.Stuck.{Stuck}
-use Rattle.flow.specs.declared.stuck.Stuck.TheVariants as stuck
-use Rattle.flow.specs.Replies.{failure, room_in}
+use Rattle.mount_model.specs.declared.stuck.Stuck.{Stuck}
+use Rattle.mount_model.specs.declared.stuck.Stuck.TheVariants as stuck
+use Rattle.mount_model.specs.FlowReplies.{failure, room_in}
 use Rattle.mount_model.specs.declared.reply.Reply.{Reply}
 use Rattle.mount_model.specs.declared.reply.Reply.TheVariants.{Done}
 use Rattle.mount_model.specs.Paths.{Name}

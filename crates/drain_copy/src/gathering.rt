@@ -12,8 +12,7 @@ use crate::plan::{Job, Owner, covers_of, job_of, mounts_of, owners_of, taken};
 use crate::stages::{SourceStage, Syncing, Turn};
 use crate::telling::{found_room, kept};
 use drain_read::{Contained, ContainerRead, ContainerTurn, Held, Known};
-use flow::Stuck;
-use mount_model::{Call, Reply};
+use mount_model::{Call, Reply, Stuck};
 use plfs_types::{LogicalName, NoMemory, Queue};
 use std::alloc::Global;
 

@@ -11,7 +11,7 @@ use crate::plan::nothing_held;
 use crate::stages::{TargetStage, Turn};
 use crate::telling::{look_reply, look_step, room_sought, stuck_there};
 use drain_read::{Held, HeldRead, HeldTurn};
-use flow::Stuck;
+use mount_model::Stuck;
 use plfs_types::{LogicalName, NoMemory};
 use std::alloc::Global;
 use store_api::{Answer, OwnedStep, Trouble};

@@ -1,5 +1,5 @@
 //! What a drain comes to.
-use flow::Stuck;
+use mount_model::Stuck;
 use plfs_types::Name;
 
 /// What a drain wrote.

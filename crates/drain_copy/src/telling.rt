@@ -7,8 +7,7 @@ ghost use Rattle.store_api.specs.Owned.{step_given};
 
 use crate::outcome::DrainStuck;
 use container_layout::openhosts;
-use flow::{Stuck, bytes_in, damage, failure, room_in, trouble};
-use mount_model::{Call, Look, Reply};
+use mount_model::{Call, Look, Reply, Stuck, bytes_in, damage, failure, room_in, trouble};
 use plfs_types::{Bytes, Name, Path};
 use store_api::{Answer, OwnedStep, Trouble};
 

@@ -31,12 +31,12 @@ use Rattle.mount_sound.specs.Ledger.{Ledger}
 use Rattle.mount_sound.specs.Owed.{IsLawful, May, StandsInRoom}
 use Rattle.mount_sound.specs.Sound.{IsClean, IsFine}
 use Rattle.mount_sound.proofs.Facts.{is_log, one_tree, step_fine, was_clean}
-use Rattle.flow.specs.declared.stuck.Stuck.{Stuck}
-use Rattle.flow.specs.Replies.{Tries, on_ok}
-use Rattle.flow.specs.Running.{Runs, asking, unbroken}
-use Rattle.flow.proofs.Facts.{runs_in_two}
-use Rattle.story.specs.Program.{done, ask}
-use Rattle.story.proofs.Facts.{after_own}
+use Rattle.mount_model.specs.declared.stuck.Stuck.{Stuck}
+use Rattle.mount_model.specs.FlowReplies.{Tries, on_ok}
+use Rattle.mount_model.specs.Running.{Runs, asking, unbroken}
+use Rattle.mount_model.proofs.Flows.Facts.{runs_in_two}
+use Rattle.mount_model.specs.Program.{done, ask}
+use Rattle.mount_model.proofs.Stories.Facts.{after_own}
 use Rattle.index_reader.specs.declared.entries.Tail.{Tail}
 use Rattle.index_reader.specs.declared.listing.Dropping.{Dropping as Listed}
 use Rattle.index_reader.specs.declared.listing.Listing.{Listing}
@@ -46,10 +46,10 @@ use Rattle.index_reader.specs.Packs.{no_tail}
 use Rattle.index_reader.specs.Tails.{tail_program}
 use Rattle.index_reader.specs.Truncs.{trunc_program}
 use Rattle.index_reader.proofs.Facts.{IsLook, OnlyLooks}
-use Rattle.gathering.specs.Gathering.{IsLogLength}
-use Rattle.gathering.specs.Moments.{Dropping, Grows, HadItem, IsNamed, IsSoundAt, Moment, Stood, file_in_room, moment_after}
-use Rattle.gathering.specs.Seen.{Asked, IsSeen}
-use Rattle.gathering.proofs.Facts.{answers_as, follows, grows_after, grows_trans, in_tree, legal_first, legal_rest, length_told, moment-append, seen, seen_grows, sound_after}
+use Rattle.reader_laws.specs.Gathering.{IsLogLength}
+use Rattle.reader_laws.specs.Moments.{Dropping, Grows, HadItem, IsNamed, IsSoundAt, Moment, Stood, file_in_room, moment_after}
+use Rattle.reader_laws.specs.Seen.{Asked, IsSeen}
+use Rattle.reader_laws.proofs.Gathered.Facts.{answers_as, follows, grows_after, grows_trans, in_tree, legal_first, legal_rest, length_told, moment-append, seen, seen_grows, sound_after}
 use Rattle.reader_laws.specs.Listing.{AreListed}
 use Rattle.reader_laws.specs.Sharing.{in_room}
 use Rattle.reader_laws.proofs.Calls.Calling.{FitsRead, calls_are}

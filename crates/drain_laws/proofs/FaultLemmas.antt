@@ -20,10 +20,10 @@ use Rattle.mount_model.specs.declared.reply.Reply.TheVariants as reply_of
 use Rattle.mount_model.specs.Paths.{Name, mark_path}
 use Rattle.container_layout.specs.Paths.{openhosts}
 use Rattle.mount_model.specs.Replies.{FitsCall, IsTrouble, damaged, fault, no_memory, refused}
-use Rattle.flow.specs.declared.stuck.Stuck.{Stuck}
-use Rattle.flow.specs.declared.stuck.Stuck.TheVariants as stuck
-use Rattle.flow.specs.Replies.{Tries, bytes_in, damage, failure, room_in, trouble}
-use Rattle.story.specs.Program.{AsksOnly, done, ask}
+use Rattle.mount_model.specs.declared.stuck.Stuck.{Stuck}
+use Rattle.mount_model.specs.declared.stuck.Stuck.TheVariants as stuck
+use Rattle.mount_model.specs.FlowReplies.{Tries, bytes_in, damage, failure, room_in, trouble}
+use Rattle.mount_model.specs.Program.{AsksOnly, done, ask}
 use Rattle.drain_read.specs.declared.held.Held.{Held}
 use Rattle.drain_read.specs.declared.read.Contained.{Contained}
 use Rattle.drain_read.specs.declared.read.WriterRead.{WriterRead}

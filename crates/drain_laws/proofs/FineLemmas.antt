@@ -8,19 +8,19 @@ use Rattle.container_layout.specs.declared.items.Item.TheVariants as item
 use Rattle.container_layout.specs.Paths.{hostdir_of}
 use Rattle.mount_model.specs.declared.reply.Reply.{Reply}
 use Rattle.mount_model.specs.Paths.{Name, flats, index_path, log_path, metadata, truncs}
-use Rattle.flow.specs.declared.names.Metadata.{Metadata}
-use Rattle.flow.specs.declared.stuck.Stuck.{Stuck}
-use Rattle.flow.specs.declared.stuck.Stuck.TheVariants as stuck
-use Rattle.flow.specs.Listed.{file_in, known, or_trouble, told_by}
-use Rattle.flow.specs.Names.{meta_in, trunc_in}
-use Rattle.flow.specs.Replies.{Tries, bytes_in, damage, given, names_in, on_ok, trouble}
-use Rattle.story.specs.Program.{done, ask, followed_by}
+use Rattle.mount_model.specs.declared.names.Metadata.{Metadata}
+use Rattle.mount_model.specs.declared.stuck.Stuck.{Stuck}
+use Rattle.mount_model.specs.declared.stuck.Stuck.TheVariants as stuck
+use Rattle.mount_model.specs.FlowListed.{file_in, known, or_trouble, told_by}
+use Rattle.mount_model.specs.Names.{meta_in, trunc_in}
+use Rattle.mount_model.specs.FlowReplies.{Tries, bytes_in, damage, given, names_in, on_ok, trouble}
+use Rattle.mount_model.specs.Program.{done, ask, followed_by}
 use Rattle.flat_format.specs.declared.flat.Flat.{Flat}
 use Rattle.index_reader.specs.declared.entries.Tail.{Tail}
 use Rattle.index_reader.specs.declared.listing.Dropping.{Dropping as Listed}
 use Rattle.index_reader.specs.declared.scanning.Scan.{Scan}
 use Rattle.index_entry.specs.Spelling.{entry_in}
-use Rattle.flow.specs.Entries.{is_next}
+use Rattle.mount_model.specs.Entries.{is_next}
 use Rattle.index_reader.specs.Covered.{cover_of}
 use Rattle.index_reader.specs.Entries.{checked, longer}
 use Rattle.index_reader.specs.Items.{hostdir_item}
@@ -30,7 +30,7 @@ use Rattle.index_reader.specs.Replies.{log_length_in, number_in}
 use Rattle.index_reader.specs.Scanning.{foreign_in, has_writer, nothing_found, scanned, taken, taken_all, unless_foreign}
 use Rattle.index_reader.specs.Searching.{has_name}
 use Rattle.index_reader.specs.Tails.{if_checked, if_logged, if_told, log_then, looked, reads, reads_left, tail_program}
-use Rattle.flow.specs.Entries.{next_read, reads_of}
+use Rattle.mount_model.specs.Entries.{next_read, reads_of}
 use Rattle.index_reader.specs.Tops.{access, foreign_at_top, required, shown, top_shows}
 use Rattle.container_layout.specs.Paths.{hostdirs}
 use Rattle.index_reader.specs.Truncs.{if_trunc, inserted, trunc_program, truncs_of, truncs_path}

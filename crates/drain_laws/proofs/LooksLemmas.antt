@@ -10,9 +10,9 @@ use Rattle.mount_model.specs.declared.call.Call.TheVariants.{Look, SyncDropping}
 use Rattle.mount_model.specs.declared.call.Look.{Look as Sight}
 use Rattle.mount_model.specs.declared.reply.Reply.{Reply}
 use Rattle.mount_model.specs.Paths.{Name, index_path, log_path, mark_path}
-use Rattle.flow.specs.declared.stuck.Stuck.{Stuck}
-use Rattle.flow.specs.Replies.{Tries, bytes_in, given, names_in, on_ok, trouble}
-use Rattle.story.specs.Program.{AsksOnly, done, ask, followed_by}
+use Rattle.mount_model.specs.declared.stuck.Stuck.{Stuck}
+use Rattle.mount_model.specs.FlowReplies.{Tries, bytes_in, given, names_in, on_ok, trouble}
+use Rattle.mount_model.specs.Program.{AsksOnly, done, ask, followed_by}
 use Rattle.flat_format.specs.declared.flat.Flat.{Flat}
 use Rattle.index_reader.specs.declared.entries.Tail.{Tail}
 use Rattle.index_reader.specs.declared.listing.Dropping.{Dropping as Listed}
@@ -23,7 +23,7 @@ use Rattle.index_reader.specs.Packs.{no_tail}
 use Rattle.index_reader.specs.Replies.{log_length_in, number_in}
 use Rattle.index_reader.specs.Scanning.{nothing_found, scanned}
 use Rattle.index_reader.specs.Tails.{if_logged, if_told, log_then, looked, reads, reads_left, tail_program}
-use Rattle.flow.specs.Entries.{next_read, reads_of}
+use Rattle.mount_model.specs.Entries.{next_read, reads_of}
 use Rattle.index_reader.specs.Tops.{top_shows}
 use Rattle.index_reader.specs.Truncs.{trunc_program, truncs_of, truncs_path}
 use Rattle.index_reader.proofs.Facts.{if_checked_asks}

@@ -11,8 +11,8 @@ use Rattle.mount_model.specs.declared.reply.Reply.TheVariants as reply_of
 use Rattle.mount_model.specs.Paths.{Name}
 use Rattle.mount_model.specs.Replies.{FitsAsk, FitsCall}
 use Rattle.mount_model.proofs.Facts.{step_causes, step_fits}
-use Rattle.flow.specs.declared.stuck.Stuck.TheVariants as stuck
-use Rattle.gathering.specs.Moments.{Moment, next_moment}
+use Rattle.mount_model.specs.declared.stuck.Stuck.TheVariants as stuck
+use Rattle.reader_laws.specs.Moments.{Moment, next_moment}
 use Rattle.drain_copy.specs.declared.outcome.DrainStuck.TheVariants.{Source, TargetFault}
 use Rattle.drain_copy.specs.Asking.{acts, calls, ends}
 use Rattle.mount_model.specs.Making.{Told}

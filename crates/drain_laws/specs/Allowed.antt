@@ -6,7 +6,7 @@ use Rattle.mount_model.specs.History.{Event, state_after}
 use Rattle.mount_model.specs.State.{State}
 use Rattle.mount_model.specs.Step.{IsStep}
 use Rattle.mount_sound.specs.Owed.{IsLawful, May}
-use Rattle.flow.specs.Running.{unbroken}
+use Rattle.mount_model.specs.Running.{unbroken}
 use Rattle.drain_copy.specs.Asking.{acts, calls, ends}
 use Rattle.mount_model.specs.Making.{Told}
 use Rattle.drain_copy.specs.Telling.{DrainsOn}

@@ -5,7 +5,7 @@ use Rattle.store_api.specs.declared.tree.Room.{Room}
 use Rattle.store_api.specs.declared.tree.Tree.{Tree}
 use Rattle.mount_model.specs.Paths.{Name}
 use Rattle.mount_sound.specs.Items.{HasItem}
-use Rattle.gathering.specs.Moments.{HadTrunc, Moment, Stood, landed}
+use Rattle.reader_laws.specs.Moments.{HadTrunc, Moment, Stood, landed}
 use Rattle.drain_sound.specs.Fronts.{dropping_in}
 use Rattle.drain_sound.specs.Steps.{IsNamedRoom}
 use Rattle.drain_sound.specs.Views.{HasCopied}

@@ -4,8 +4,8 @@ use Rattle.store_api.specs.Acts.{Acts, Stored}
 use Rattle.mount_model.specs.declared.reply.Reply.TheVariants.{Room}
 use Rattle.mount_model.specs.History.{Event}
 use Rattle.mount_sound.specs.Owed.{IsLawful}
-use Rattle.flow.specs.Running.{unbroken}
-use Rattle.gathering.specs.Moments.{Moment, next_moment}
+use Rattle.mount_model.specs.Running.{unbroken}
+use Rattle.reader_laws.specs.Moments.{Moment, next_moment}
 use Rattle.drain_copy.specs.Asking.{acts, calls}
 use Rattle.drain_copy.specs.Telling.{DrainsOn}
 use Rattle.drain_sound.specs.Draining.{Act, Happening, at_source, at_target}

@@ -11,8 +11,8 @@ use Rattle.mount_model.specs.History.{Event}
 use Rattle.mount_model.specs.Paths.{Name}
 use Rattle.container_layout.specs.Paths.{openhosts}
 use Rattle.mount_sound.specs.Items.{HasMeta}
-use Rattle.gathering.specs.Moments.{Moment, Stood, landed, moment_after}
-use Rattle.flow.specs.declared.stuck.Stuck.TheVariants as stuck
+use Rattle.reader_laws.specs.Moments.{Moment, Stood, landed, moment_after}
+use Rattle.mount_model.specs.declared.stuck.Stuck.TheVariants as stuck
 use Rattle.drain_copy.specs.declared.outcome.DrainStuck.{DrainStuck}
 use Rattle.drain_copy.specs.declared.outcome.DrainStuck.TheVariants.{Source, Taken, TargetDamaged, TargetFault}
 use Rattle.drain_sound.specs.Draining.{Happening, target_after}

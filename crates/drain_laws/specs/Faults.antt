@@ -2,7 +2,7 @@
 use Rattle.std.specs.Prelude.{◌≡◌, ◌≢◌, ℕ, Err}
 use Rattle.store_api.specs.declared.store.Trouble.TheVariants.{NoMemory as ToldNoMemory}
 use Rattle.mount_model.specs.declared.reply.Reply.TheVariants.{NoMemory}
-use Rattle.flow.specs.declared.stuck.Stuck.TheVariants as stuck
+use Rattle.mount_model.specs.declared.stuck.Stuck.TheVariants as stuck
 use Rattle.drain_copy.specs.declared.outcome.DrainStuck.TheVariants.{Source, TargetFault}
 use Rattle.drain_copy.specs.Telling.{Outcome}
 use Rattle.drain_sound.specs.Draining.{Happening, at_source, at_target}

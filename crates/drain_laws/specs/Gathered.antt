@@ -5,7 +5,7 @@ use Rattle.mount_model.specs.declared.call.Call.TheVariants.{Look}
 use Rattle.mount_model.specs.declared.call.Look.TheVariants.{List as ListFolder}
 use Rattle.mount_model.specs.History.{Event}
 use Rattle.mount_model.specs.Paths.{truncs}
-use Rattle.gathering.specs.Moments.{Moment, moment_after}
+use Rattle.reader_laws.specs.Moments.{Moment, moment_after}
 use Rattle.drain_sound.specs.Draining.{Happening, at_source, at_target}
 
 -- the calls at the source

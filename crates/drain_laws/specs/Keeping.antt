@@ -5,7 +5,7 @@ use Rattle.store_api.specs.declared.tree.Tree.{Tree}
 use Rattle.store_api.specs.Acts.{Stored}
 use Rattle.store_api.specs.Loss.{Loses}
 use Rattle.mount_model.specs.Paths.{Name}
-use Rattle.gathering.specs.Moments.{Moment}
+use Rattle.reader_laws.specs.Moments.{Moment}
 use Rattle.drain_sound.specs.Kept.{IsKeptThere}
 use Rattle.drain_sound.specs.Steps.{IsNamedRoom}
 

@@ -8,7 +8,7 @@ use Rattle.mount_model.specs.declared.call.Call.{Call}
 use Rattle.mount_model.specs.declared.call.Call.TheVariants.{Look, SyncDropping}
 use Rattle.mount_model.specs.declared.call.Look.TheVariants.{Read}
 use Rattle.mount_model.specs.Paths.{Name, log_path}
-use Rattle.gathering.specs.Moments.{Moment, Stood, landed}
+use Rattle.reader_laws.specs.Moments.{Moment, Stood, landed}
 use Rattle.drain_sound.specs.Draining.{Happening, at_source, at_target}
 use Rattle.drain_sound.specs.Fronts.{dropping_in}
 use Rattle.drain_sound.specs.Steps.{IsNamedRoom}

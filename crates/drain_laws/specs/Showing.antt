@@ -10,11 +10,11 @@ use Rattle.mount_model.specs.Mounting.{IsMounted}
 use Rattle.mount_model.specs.Paths.{Name}
 use Rattle.mount_model.specs.State.{State}
 use Rattle.mount_sound.specs.Owed.{IsLawful}
-use Rattle.gathering.specs.Gathering.{Gathered, IsAdmissible}
-use Rattle.gathering.specs.Listing.{AreTruncsAt}
-use Rattle.gathering.specs.Moments.{Dropping, Moment, Stood, landed, moment_after}
-use Rattle.gathering.specs.Opening.{HasView}
-use Rattle.gathering.specs.View.{view}
+use Rattle.reader_laws.specs.Gathering.{Gathered, IsAdmissible}
+use Rattle.reader_laws.specs.GatheringListing.{AreTruncsAt}
+use Rattle.reader_laws.specs.Moments.{Dropping, Moment, Stood, landed, moment_after}
+use Rattle.reader_laws.specs.GatheringOpening.{HasView}
+use Rattle.reader_laws.specs.View.{view}
 use Rattle.drain_sound.specs.Fronts.{IsTarget, dropping_in}
 use Rattle.drain_sound.specs.Steps.{IsNamedRoom}
 use Rattle.drain_sound.specs.Views.{StaysQuiet, cut_there, mounted_there}

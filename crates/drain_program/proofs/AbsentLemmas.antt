@@ -19,9 +19,9 @@ use Rattle.store_api.specs.Names.{marks_folder}
 use Rattle.store_api.specs.Names.{marks_name}
 use Rattle.mount_model.specs.State.{State}
 use Rattle.mount_sound.proofs.Facts.{mounted_sound, one_tree}
-use Rattle.flow.specs.Running.{unbroken}
-use Rattle.gathering.specs.Moments.{IsSoundAt, Moment}
-use Rattle.gathering.proofs.Facts.{answers_as}
+use Rattle.mount_model.specs.Running.{unbroken}
+use Rattle.reader_laws.specs.Moments.{IsSoundAt, Moment}
+use Rattle.reader_laws.proofs.Gathered.Facts.{answers_as}
 use Rattle.drain_copy.specs.Draining.{drain_program}
 use Rattle.drain_copy.specs.Telling.{DrainsOn}
 use Rattle.drain_sound.specs.Draining.{Happening, HoldsTarget}

@@ -9,15 +9,15 @@ use Rattle.store_api.specs.declared.tree.Tree.{Tree}
 use Rattle.store_api.specs.Acts.{Stored}
 use Rattle.turn_object.specs.Callers.{is_by, made_by}
 use Rattle.mount_model.specs.declared.reply.Refusal.TheVariants.{NoRoom}
-use Rattle.mount_model.specs.declared.trouble.MountTrouble.{MountTrouble}
-use Rattle.mount_model.specs.declared.trouble.MountTrouble.TheVariants as trouble
+use Rattle.mount_model.specs.declared.mount_trouble.MountTrouble.{MountTrouble}
+use Rattle.mount_model.specs.declared.mount_trouble.MountTrouble.TheVariants as trouble
 use Rattle.mount_model.specs.Failing.{FailsToMount}
 use Rattle.mount_model.specs.History.{Event}
 use Rattle.mount_model.specs.Paths.{Name, openhosts}
 use Rattle.mount_sound.specs.Sound.{IsSoundTree}
 use Rattle.mount_sound.proofs.Facts.{mounted_sound, one_tree}
-use Rattle.flow.specs.declared.stuck.Stuck.TheVariants as stuck
-use Rattle.gathering.specs.Moments.{IsSoundAt, Moment, moment_after}
+use Rattle.mount_model.specs.declared.stuck.Stuck.TheVariants as stuck
+use Rattle.reader_laws.specs.Moments.{IsSoundAt, Moment, moment_after}
 use Rattle.outcomes.specs.Outcomes.{stuck_outcome}
 use Rattle.script_lang.specs.declared.line.Outcome.{Outcome}
 use Rattle.script_lang.specs.declared.line.Outcome.TheVariants.{Damaged, Fault, Refused}

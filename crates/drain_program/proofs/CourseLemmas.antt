@@ -8,14 +8,14 @@ use Rattle.mount_model.specs.History.{Event, state_after}
 use Rattle.mount_model.specs.Paths.{Name}
 use Rattle.store_api.specs.Names.{marks_folder}
 use Rattle.mount_model.specs.State.{State}
-use Rattle.mount_model.specs.declared.trouble.MountTrouble.{MountTrouble}
-use Rattle.mount_model.specs.declared.trouble.MountTrouble.TheVariants as trouble
+use Rattle.mount_model.specs.declared.mount_trouble.MountTrouble.{MountTrouble}
+use Rattle.mount_model.specs.declared.mount_trouble.MountTrouble.TheVariants as trouble
 use Rattle.mount_sound.specs.Owed.{IsLawful}
 use Rattle.mount_sound.proofs.Facts.{mounted_sound}
-use Rattle.gathering.specs.Moments.{Moment, next_moment}
-use Rattle.gathering.proofs.Facts.{legal_first}
-use Rattle.flow.specs.declared.stuck.Stuck.{Stuck}
-use Rattle.flow.specs.declared.stuck.Stuck.TheVariants as stuck
+use Rattle.reader_laws.specs.Moments.{Moment, next_moment}
+use Rattle.reader_laws.proofs.Gathered.Facts.{legal_first}
+use Rattle.mount_model.specs.declared.stuck.Stuck.{Stuck}
+use Rattle.mount_model.specs.declared.stuck.Stuck.TheVariants as stuck
 use Rattle.outcomes.specs.Outcomes.{stuck_outcome, why_of}
 use Rattle.run_core.specs.Leading.{GoesOn}
 use Rattle.script_lang.specs.declared.line.Outcome.{Outcome}

@@ -23,8 +23,8 @@ use Rattle.mount_model.specs.Listed.{IsLeastOther, IsMarkOf}
 use Rattle.mount_model.specs.Mounting.{list_step}
 use Rattle.store_api.specs.Names.{marks_folder}
 use Rattle.store_api.specs.Names.{marks_name}
-use Rattle.mount_shape.specs.Container.{IsContainer}
-use Rattle.mount_shape.specs.Marks.{IsMarksRoom, IsOfMark}
+use Rattle.mount_sound.specs.Container.{IsContainer}
+use Rattle.mount_sound.specs.Marks.{IsMarksRoom, IsOfMark}
 use Rattle.mount_sound.specs.Sound.{IsSoundTree}
 use Rattle.program_ends.specs.Mounting.{AreDamagedAt, listed_in, listed_marks, listed_or_none}
 

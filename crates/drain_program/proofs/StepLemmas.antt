@@ -16,8 +16,8 @@ use Rattle.mount_model.specs.State.{State}
 use Rattle.mount_model.specs.Step.{IsStep}
 use Rattle.mount_sound.specs.Owed.{IsLawful, May}
 use Rattle.mount_sound.specs.Sound.{IsFine}
-use Rattle.flow.specs.Running.{unbroken}
-use Rattle.gathering.specs.Moments.{Moment, next_moment}
+use Rattle.mount_model.specs.Running.{unbroken}
+use Rattle.reader_laws.specs.Moments.{Moment, next_moment}
 use Rattle.drain_copy.specs.Asking.{acts, calls, ends}
 use Rattle.mount_model.specs.Making.{Told}
 use Rattle.drain_copy.specs.Draining.{drain_program}

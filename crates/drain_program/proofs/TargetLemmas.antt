@@ -33,9 +33,9 @@ use Rattle.mount_model.proofs.Facts.{step_fits}
 use Rattle.mount_sound.specs.Ledger.{Ledger}
 use Rattle.mount_sound.specs.Sound.{IsSoundTree}
 use Rattle.mount_sound.proofs.Facts.{mounted_sound, one_tree}
-use Rattle.flow.specs.Running.{unbroken}
-use Rattle.gathering.specs.Moments.{IsSoundAt, Moment, next_moment}
-use Rattle.gathering.proofs.Facts.{answers_as, sound_after}
+use Rattle.mount_model.specs.Running.{unbroken}
+use Rattle.reader_laws.specs.Moments.{IsSoundAt, Moment, next_moment}
+use Rattle.reader_laws.proofs.Gathered.Facts.{answers_as, sound_after}
 use Rattle.drain_copy.specs.declared.outcome.Drained.{Drained}
 use Rattle.drain_copy.specs.declared.outcome.DrainStuck.{DrainStuck}
 use Rattle.drain_copy.specs.Asking.{acts, at_target as on_target, calls, ends, look_reply}
@@ -45,9 +45,9 @@ use Rattle.drain_copy.specs.Planning.{nothing_drained, nothing_held}
 use Rattle.drain_copy.specs.Telling.{DrainsOn, Outcome, folder_alone, found_room, on_good, sought, told_well}
 use Rattle.drain_read.specs.declared.held.Held.{Held}
 use Rattle.drain_read.specs.Holding.{held_program}
-use Rattle.flow.specs.declared.stuck.Stuck.{Stuck}
-use Rattle.flow.specs.Replies.{Tries}
-use Rattle.story.specs.Program.{ask, done}
+use Rattle.mount_model.specs.declared.stuck.Stuck.{Stuck}
+use Rattle.mount_model.specs.FlowReplies.{Tries}
+use Rattle.mount_model.specs.Program.{ask, done}
 use Rattle.drain_sound.specs.Draining.{Act, Happening, HoldsTarget, at_source, at_target, source_after, target_after}
 use Rattle.drain_sound.specs.Fronts.{IsTarget}
 use Rattle.drain_sound.specs.Views.{mounted_there}

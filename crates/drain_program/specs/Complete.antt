@@ -5,7 +5,7 @@ use Rattle.store_api.specs.declared.tree.Tree.{Tree}
 use Rattle.store_api.specs.Acts.{Stored}
 use Rattle.mount_model.specs.Mounting.{IsMounted}
 use Rattle.mount_model.specs.Paths.{Name}
-use Rattle.gathering.specs.Moments.{IsSoundAt, Moment}
+use Rattle.reader_laws.specs.Moments.{IsSoundAt, Moment}
 use Rattle.program_ends.specs.Ends.{Ends}
 use Rattle.program_ends.specs.Mounting.{AreSpent, listed_marks}
 use Rattle.drain_sound.specs.Draining.{Happening}

@@ -10,7 +10,7 @@ use Rattle.mount_model.specs.declared.reply.Reply.TheVariants.{NoMemory}
 use Rattle.mount_model.specs.Paths.{Name}
 use Rattle.mount_model.specs.State.{State}
 use Rattle.mount_model.specs.Step.{IsStep}
-use Rattle.flow.specs.Running.{unbroken}
+use Rattle.mount_model.specs.Running.{unbroken}
 use Rattle.drain_copy.specs.Asking.{acts, calls}
 use Rattle.mount_model.specs.Making.{Told}
 use Rattle.drain_copy.specs.Standing.{GoesOnAfter, GoesOnTold, HasEnded, Standing, awaits_answer, awaits_reply, ready}

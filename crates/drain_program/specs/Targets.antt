@@ -9,7 +9,7 @@ use Rattle.mount_model.specs.Mounting.{IsMounted}
 use Rattle.mount_model.specs.Paths.{Name}
 use Rattle.mount_sound.specs.Sound.{IsSoundTree}
 use Rattle.mount_sound.specs.Owed.{IsLawful}
-use Rattle.gathering.specs.Moments.{IsSoundAt, Moment, moment_after}
+use Rattle.reader_laws.specs.Moments.{IsSoundAt, Moment, moment_after}
 use Rattle.drain_sound.specs.Draining.{Happening, HoldsTarget, source_after, target_after}
 use Rattle.drain_sound.specs.Steps.{IsNamedRoom}
 use Rattle.drain_laws.specs.Drained.{HasDrained}

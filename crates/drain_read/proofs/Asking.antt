@@ -1,8 +1,8 @@
 -- A machine whose call is out, and then what its result leads to.
 use Rattle.std.proofs.Common.{◌≡◌, Some, None, ap, sym, ◌∙◌}
 use Rattle.std.proofs.lemmas.Option.{none-some, same_Some}
-use Rattle.story.specs.Program.{Program, done, ask, followed_by}
-use Rattle.flow.specs.Standing.{Standing, ready, over, awaits, next_of, rest_of, replied}
+use Rattle.mount_model.specs.Program.{Program, done, ask, followed_by}
+use Rattle.mount_model.specs.Standing.{Standing, ready, over, awaits, next_of, rest_of, replied}
 
 module _ {A R X Y : Type 0} (next : X → Program A R Y) where
   -- once its call is out, the machine and all that follows are what they were before

@@ -1,12 +1,12 @@
 -- The calls that tell what the container of a target has: those that read it, List of its metadata, and of each writer with an
 -- index dropping the length of its log.
 use Rattle.std.specs.Prelude.{ℕ, false, List, [], ◌∷◌, ◌++◌, Result, Ok}
-use Rattle.flow.specs.declared.names.Metadata.{Metadata}
-use Rattle.flow.specs.declared.stuck.Stuck.{Stuck}
-use Rattle.flow.specs.Listed.{known, told_by}
-use Rattle.flow.specs.Names.{meta_in}
-use Rattle.flow.specs.Replies.{Tries, given, on_ok, trouble}
-use Rattle.story.specs.Program.{done, ask, followed_by}
+use Rattle.mount_model.specs.declared.names.Metadata.{Metadata}
+use Rattle.mount_model.specs.declared.stuck.Stuck.{Stuck}
+use Rattle.mount_model.specs.FlowListed.{known, told_by}
+use Rattle.mount_model.specs.Names.{meta_in}
+use Rattle.mount_model.specs.FlowReplies.{Tries, given, on_ok, trouble}
+use Rattle.mount_model.specs.Program.{done, ask, followed_by}
 use Rattle.mount_model.specs.declared.call.Call.TheVariants.{Look}
 use Rattle.mount_model.specs.declared.call.Look.TheVariants.{List as ListFolder, Length}
 use Rattle.mount_model.specs.Paths.{Name, log_path, metadata}

@@ -3,8 +3,8 @@
 use Rattle.std.specs.Prelude.{Bool, true, false, List, [], ◌∷◌, ◌++◌, Ok}
 use Rattle.plfs_types.specs.declared.entries.Entry.{Entry}
 use Rattle.plfs_types.specs.declared.entries.Trunc.{Trunc}
-use Rattle.story.specs.Program.{done, followed_by}
-use Rattle.flow.specs.Replies.{Tries, on_ok}
+use Rattle.mount_model.specs.Program.{done, followed_by}
+use Rattle.mount_model.specs.FlowReplies.{Tries, on_ok}
 use Rattle.index_reader.specs.declared.entries.Tail.{Tail}
 use Rattle.index_reader.specs.declared.listing.Dropping.{Dropping}
 use Rattle.index_reader.specs.declared.listing.Listing.{Listing}

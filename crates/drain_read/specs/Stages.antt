@@ -1,9 +1,9 @@
 -- Where the machines stand in their programs: what follows the reply to the call that is out.
 use Rattle.std.specs.Prelude.{ℕ, ◌+◌, ◌*◌, ◌^◌, [], ◌∷◌, ◌++◌, length}
-use Rattle.story.specs.Program.{done, ask, followed_by}
-use Rattle.flow.specs.Listed.{told_by}
-use Rattle.flow.specs.Replies.{Tries, given, on_ok, trouble}
-use Rattle.flow.specs.Standing.{replied, rest_of}
+use Rattle.mount_model.specs.Program.{done, ask, followed_by}
+use Rattle.mount_model.specs.FlowListed.{told_by}
+use Rattle.mount_model.specs.FlowReplies.{Tries, given, on_ok, trouble}
+use Rattle.mount_model.specs.Standing.{replied, rest_of}
 use Rattle.mount_model.specs.declared.reply.Reply.{Reply}
 use Rattle.mount_model.specs.Paths.{log_path, metadata}
 use Rattle.mount_model.specs.Step.{OwedBy}

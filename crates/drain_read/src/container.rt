@@ -1,8 +1,8 @@
 //! The reading of a container.
 ghost use Rattle.std.specs.Prelude.{◌≡◌, ◌≤◌, ◌<◌, ◌+◌, ◌^◌, ◌++◌, [], ◌∷◌, length, IfOk, IsErr};
 ghost use Rattle.mount_model.specs.declared.reply.Reply.TheVariants.{NoMemory as WantsMemory};
-ghost use Rattle.story.specs.Program.{followed_by};
-ghost use Rattle.flow.specs.Replies.{on_ok};
+ghost use Rattle.mount_model.specs.Program.{followed_by};
+ghost use Rattle.mount_model.specs.FlowReplies.{on_ok};
 ghost use Rattle.plfs_types.specs.declared.entries.Cover.{Cover as Covered};
 ghost use Rattle.index_reader.specs.Found.{item_of};
 ghost use Rattle.index_reader.specs.Covered.{cover_of as cover_for};
@@ -14,9 +14,8 @@ ghost use Rattle.drain_read.specs.Stages.{container_bound, container_left, conta
 
 use crate::out::{Scan, TailOut, TruncsOut};
 use crate::read::{Contained, Known, WriterRead, WriterReadList};
-use flow::{Flow, Stuck};
 use index_reader::{AfterOpen, Dropping, Listing, OpenRead, Tail, TailFlow, TruncRead};
-use mount_model::{Call, Reply};
+use mount_model::{Call, Flow, Reply, Stuck};
 use plfs_types::{Cover, EntryList, NoMemory, Queue, TruncList};
 use std::alloc::Global;
 

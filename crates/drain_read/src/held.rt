@@ -1,8 +1,8 @@
 //! What the container of a target has.
 ghost use Rattle.std.specs.Prelude.{◌≡◌, ◌≤◌, ◌<◌, ◌+◌, ◌^◌, [], length, IfOk, IsErr};
 ghost use Rattle.mount_model.specs.declared.reply.Reply.TheVariants.{NoMemory as WantsMemory};
-ghost use Rattle.story.specs.Program.{followed_by};
-ghost use Rattle.flow.specs.Replies.{on_ok};
+ghost use Rattle.mount_model.specs.Program.{followed_by};
+ghost use Rattle.mount_model.specs.FlowReplies.{on_ok};
 ghost use Rattle.mount_model.specs.Paths as paths;
 ghost use Rattle.drain_read.specs.Holding.{held_program, lists_settled, measures, unknown as unknown_of};
 ghost use Rattle.drain_read.specs.Stages.{container_turn, container_turn_left, held_bound, held_calls, held_left, held_rest, held_stage_rest, held_turn, held_turn_left, IsOwedContainer, IsOwedHeld};
@@ -12,9 +12,8 @@ use crate::read::{Contained, Known, WriterRead, WriterReadList};
 use crate::settled::settled;
 use crate::waiting::Waiting;
 use container_layout::{Item, metadata, print};
-use flow::{Stuck, trouble};
 use index_reader::log_length_in;
-use mount_model::{Call, Look, Reply};
+use mount_model::{Call, Look, Reply, Stuck, trouble};
 use plfs_types::{Cover, CoverList, IdList, NoMemory, Path, Sequence};
 use std::alloc::Global;
 

@@ -1,7 +1,7 @@
 //! Machines whose call is out.
 ghost use Rattle.std.specs.Prelude.{◌≡◌, true};
-ghost use Rattle.flow.specs.Composed.{is_awaiting};
-ghost use Rattle.flow.specs.Standing.{rest_of};
+ghost use Rattle.mount_model.specs.Composed.{is_awaiting};
+ghost use Rattle.mount_model.specs.Standing.{rest_of};
 ghost use Rattle.index_reader.specs.OpenStages.{open_standing};
 ghost use Rattle.index_reader.specs.Stages.{tail_standing};
 ghost use Rattle.index_reader.specs.TruncStages.{trunc_standing};

@@ -1,12 +1,11 @@
 //! The writers of which a container has metadata.
 ghost use Rattle.std.specs.Prelude.{◌≡◌, [], IfOk};
-ghost use Rattle.flow.specs.Listed.{told_by};
+ghost use Rattle.mount_model.specs.FlowListed.{told_by};
 ghost use Rattle.mount_model.specs.Paths as paths;
 ghost use Rattle.drain_read.specs.Holding.{settled_named};
 
 use container_layout::metadata;
-use flow::{Stuck, damage, file_in, meta_in, names_in, trouble};
-use mount_model::Reply;
+use mount_model::{Reply, Stuck, damage, file_in, meta_in, names_in, trouble};
 use plfs_types::{IdList, Name, NoMemory};
 use std::alloc::Global;
 

@@ -10,16 +10,16 @@ use Rattle.store_laws.specs.Files.{file_at, kept_at}
 use Rattle.store_laws.specs.Prefix.{IsPrefix}
 use Rattle.store_laws.proofs.Facts.{each_room}
 use Rattle.mount_model.specs.Paths.{Name, index_path, log_path, open_path}
-use Rattle.mount_shape.specs.Container.{IsContainer}
-use Rattle.mount_shape.specs.Marks.{IsOfMark}
-use Rattle.mount_shape.specs.Shape.{IsShapedTree}
+use Rattle.mount_sound.specs.Container.{IsContainer}
+use Rattle.mount_sound.specs.Marks.{IsOfMark}
+use Rattle.mount_sound.specs.Shape.{IsShapedTree}
 use Rattle.mount_sound.specs.Dropping.{bytes_of}
 use Rattle.mount_sound.specs.Growing.{IsMore}
 use Rattle.mount_sound.specs.Items.{HasItem, HasMeta}
 use Rattle.mount_sound.specs.Ledger.{AreWritesOf, Written}
 use Rattle.mount_sound.specs.Sound.{TruncatesDiffer}
 use Rattle.mount_sound.proofs.Facts.{IsWhole, KeepsAllEntries, KeepsEntries, had, had_item_of}
-use Rattle.gathering.specs.Moments.{IsSoundAt, Moment, Stood}
+use Rattle.reader_laws.specs.Moments.{IsSoundAt, Moment, Stood}
 use Rattle.drain_sound.specs.Fronts.{IsDrainedFrom, IsTarget, index_there, log_there, dropping_in}
 use Rattle.drain_sound.specs.Steps.{IsNamedRoom}
 use Rattle.drain_sound.proofs.RoomLemmas.{ChangedSound, InstalledStay, changed_sound, flats_changed}

@@ -15,8 +15,8 @@ use Rattle.store_laws.proofs.Facts.{acts_told}
 use Rattle.mount_model.specs.Paths.{Name}
 use Rattle.mount_sound.specs.Sound.{IsSoundTree}
 use Rattle.mount_losses.specs.Losing.{LosesUnkept}
-use Rattle.gathering.specs.Moments.{IsSoundAt, Moment, next_moment}
-use Rattle.gathering.proofs.Facts.{sound_after}
+use Rattle.reader_laws.specs.Moments.{IsSoundAt, Moment, next_moment}
+use Rattle.reader_laws.proofs.Gathered.Facts.{sound_after}
 use Rattle.drain_sound.specs.Draining.{Happening, HoldsTarget, IsDraining, at_source, at_target, source_after, target_after}
 use Rattle.drain_sound.specs.Fronts.{IsTarget}
 use Rattle.drain_sound.proofs.LastsLemmas.{target_lasts}

@@ -5,7 +5,7 @@ use Rattle.store_api.specs.declared.tree.Tree.{Tree}
 use Rattle.store_laws.specs.There.{IsFree}
 use Rattle.mount_model.specs.Paths.{Name}
 use Rattle.mount_sound.specs.Sound.{IsSoundTree}
-use Rattle.gathering.specs.Moments.{Moment}
+use Rattle.reader_laws.specs.Moments.{Moment}
 use Rattle.drain_sound.specs.Fronts.{IsTarget}
 
 -- a sound tree without a container of this name

@@ -9,7 +9,7 @@ use Rattle.mount_sound.specs.Entries.{logged}
 use Rattle.mount_sound.specs.Dropping.{IsDropping}
 use Rattle.mount_sound.specs.Ledger.{Written, AreWritesOf, content, entries_in}
 use Rattle.mount_sound.proofs.Facts.{content_take, entries_take, front_of_front, length-content, writes_take}
-use Rattle.gathering.proofs.Facts.{length-entries}
+use Rattle.reader_laws.proofs.Gathered.Facts.{length-entries}
 use Rattle.mount_losses.proofs.Losing.{IndexLost, index_lost}
 use Rattle.drain_sound.specs.Fronts.{IsSoundFront}
 

@@ -19,12 +19,12 @@ use Rattle.store_laws.proofs.Facts.{path_cases, prefix-overwritten}
 use Rattle.mount_model.specs.declared.row.Making.{Making}
 use Rattle.mount_model.specs.declared.row.Making.TheVariants as making
 use Rattle.mount_model.specs.Paths.{access_path, installed_item}
-use Rattle.mount_shape.specs.Container.{IsOfId, MayHold}
-use Rattle.mount_shape.specs.Marks.{IsOfMark}
+use Rattle.mount_sound.specs.Container.{IsOfId, MayHold}
+use Rattle.mount_sound.specs.Marks.{IsOfMark}
 use Rattle.mount_sound.specs.Dropping.{bytes_of}
 use Rattle.mount_sound.specs.Items.{HasItem, HasItemOf, HasMeta}
 use Rattle.mount_sound.proofs.Facts.{owner}
-use Rattle.gathering.specs.Moments.{HadTrunc, Moment, Stood}
+use Rattle.reader_laws.specs.Moments.{HadTrunc, Moment, Stood}
 use Rattle.drain_sound.specs.Fronts.{IsDrainedFrom, index_there, log_there, dropping_in}
 use Rattle.drain_sound.proofs.ContainerLemmas.{GoesOn, IsContainerYet, RoomGoesOn}
 use Rattle.drain_sound.proofs.ShapeLemmas.{container_filed}

@@ -19,8 +19,8 @@ use Rattle.mount_sound.specs.Items.{HasItem}
 use Rattle.mount_sound.specs.Ledger.{Written, content, entries_in}
 use Rattle.mount_sound.specs.Owed.{IsLawful}
 use Rattle.mount_sound.proofs.Facts.{entries_take, is_index}
-use Rattle.gathering.specs.Moments.{Dropping, Grows, HadTrunc, IsNamed, IsSoundAt, Moment, Stood, issued_by, landed, moment_after}
-use Rattle.gathering.proofs.Facts.{grows_after, landed_whole, stood_grows}
+use Rattle.reader_laws.specs.Moments.{Dropping, Grows, HadTrunc, IsNamed, IsSoundAt, Moment, Stood, issued_by, landed, moment_after}
+use Rattle.reader_laws.proofs.Gathered.Facts.{grows_after, landed_whole, stood_grows}
 use Rattle.drain_sound.specs.Fronts.{IsDrainedFrom, IsTarget, index_there, log_there, dropping_in}
 use Rattle.drain_sound.proofs.WriterLemmas.{few_landed}
 use Rattle.drain_sound.proofs.Writes.{more_none, more_take, more_trans}

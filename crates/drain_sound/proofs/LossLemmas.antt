@@ -15,7 +15,7 @@ use Rattle.mount_sound.specs.Items.{HasItemOf}
 use Rattle.mount_sound.specs.Sound.{IsSoundTree}
 use Rattle.mount_losses.specs.Losing.{LosesUnkept}
 use Rattle.mount_losses.proofs.Losing.{had_item, had_meta}
-use Rattle.gathering.specs.Moments.{Moment}
+use Rattle.reader_laws.specs.Moments.{Moment}
 use Rattle.drain_sound.specs.Fronts.{IsDrainedFrom, IsTarget, index_there, log_there, dropping_in}
 use Rattle.drain_sound.proofs.Writes.{more_trans}
 

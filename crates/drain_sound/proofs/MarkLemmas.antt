@@ -18,13 +18,13 @@ use Rattle.store_laws.proofs.Facts.{create_told, each_room, each_with_added, mak
 use Rattle.mount_model.specs.Paths.{Name, mark_path, new_files, new_folders}
 use Rattle.store_api.specs.Names.{marks_folder}
 use Rattle.store_api.specs.Names.{marks_name}
-use Rattle.mount_shape.specs.Container.{IsContainer}
-use Rattle.mount_shape.specs.Marks.{IsMarksRoom, IsOfMark}
+use Rattle.mount_sound.specs.Container.{IsContainer}
+use Rattle.mount_sound.specs.Marks.{IsMarksRoom, IsOfMark}
 use Rattle.mount_sound.specs.Dropping.{bytes_of}
 use Rattle.mount_sound.specs.Growing.{IsMore}
 use Rattle.mount_sound.specs.Sound.{TruncatesDiffer}
 use Rattle.mount_sound.proofs.Facts.{IsBare, IsWhole, KeepsAllEntries, had, hostdir_below, made_bare, no_item}
-use Rattle.gathering.specs.Moments.{Moment}
+use Rattle.reader_laws.specs.Moments.{Moment}
 use Rattle.drain_sound.specs.Fronts.{IsDrainedFrom, IsTarget, index_there, log_there, dropping_in}
 use Rattle.drain_sound.specs.Steps.{IsNamedRoom}
 use Rattle.drain_sound.proofs.RoomLemmas.{AddedSound, ChangedSound, added_sound, changed_sound, flats_changed, no_items, with_added}

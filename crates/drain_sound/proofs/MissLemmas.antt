@@ -26,10 +26,10 @@ use Rattle.mount_sound.specs.Ledger.{AreWritesOf, Written, content, entries_in}
 use Rattle.mount_sound.specs.Owed.{IsLawful}
 use Rattle.mount_sound.specs.There.{entries_there, landed_entries, landed_in}
 use Rattle.mount_sound.proofs.Facts.{entries_take, length-content, logged_take, take_less, told_landed, writes_take}
-use Rattle.gathering.specs.Gathering.{Gathered, IsPrefixOf}
-use Rattle.gathering.specs.Moments.{Dropping, Grows, HadTrunc, IsSoundAt, Moment, Stood, file_in_room, file_told, landed, moment_after}
-use Rattle.gathering.specs.Opening.{HasView}
-use Rattle.gathering.proofs.Facts.{any_found, found_any, grows_after, landed_at, landed_whole, length-entries, prefix_of, sound_after, stood_grows}
+use Rattle.reader_laws.specs.Gathering.{Gathered, IsPrefixOf}
+use Rattle.reader_laws.specs.Moments.{Dropping, Grows, HadTrunc, IsSoundAt, Moment, Stood, file_in_room, file_told, landed, moment_after}
+use Rattle.reader_laws.specs.GatheringOpening.{HasView}
+use Rattle.reader_laws.proofs.Gathered.Facts.{any_found, found_any, grows_after, landed_at, landed_whole, length-entries, prefix_of, sound_after, stood_grows}
 use Rattle.drain_sound.specs.Fronts.{IsFrontOf, IsSoundFront, IsTarget, index_there, dropping_in}
 use Rattle.drain_sound.specs.Views.{HasCopied, MissesNothing, mounted_there}
 use Rattle.drain_sound.proofs.FrontLemmas.{front_sound}

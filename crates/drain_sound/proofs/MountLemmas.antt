@@ -21,8 +21,8 @@ use Rattle.mount_sound.specs.Ledger.{AreFull, AreWritesOf, Written, content, ent
 use Rattle.mount_sound.specs.Sound.{IsSoundTree}
 use Rattle.mount_sound.specs.There.{entries_there}
 use Rattle.mount_sound.proofs.Facts.{content_take, entries_take, length-content, mounted_sound, writes_take}
-use Rattle.gathering.specs.Moments.{Dropping, IsNamed, IsSoundAt, Moment, Stood, file_in_room, file_then, file_told, index_then, landed, landed_by, log_then}
-use Rattle.gathering.proofs.Facts.{its_log, landed_is_first, landed_whole, stands}
+use Rattle.reader_laws.specs.Moments.{Dropping, IsNamed, IsSoundAt, Moment, Stood, file_in_room, file_then, file_told, index_then, landed, landed_by, log_then}
+use Rattle.reader_laws.proofs.Gathered.Facts.{its_log, landed_is_first, landed_whole, stands}
 use Rattle.drain_sound.specs.Fronts.{IsTarget, dropping_in}
 use Rattle.drain_sound.specs.Views.{mounted_there}
 use Rattle.drain_sound.proofs.ViewLemmas.{SameItems, mounted_items}

@@ -15,7 +15,7 @@ use Rattle.store_api.specs.Names.{marks_folder}
 use Rattle.store_api.specs.Names.{marks_name}
 use Rattle.mount_model.specs.State.{State}
 use Rattle.mount_sound.proofs.Facts.{one_tree}
-use Rattle.gathering.specs.Moments.{IsSoundAt, Moment}
+use Rattle.reader_laws.specs.Moments.{IsSoundAt, Moment}
 use Rattle.drain_sound.specs.Fronts.{IsTarget}
 use Rattle.drain_sound.specs.Steps.{IsNamedRoom}
 use Rattle.drain_sound.specs.Steps as step

@@ -12,8 +12,8 @@ use Rattle.store_laws.proofs.Facts.{changed_room, each_room, each_with_added, ot
 use Rattle.mount_model.specs.declared.row.Making.{Making}
 use Rattle.mount_model.specs.declared.row.Making.TheVariants as making
 use Rattle.mount_model.specs.Paths.{index_path, installed_item, installed_of}
-use Rattle.mount_shape.specs.Marks.{IsOfMark}
-use Rattle.mount_shape.specs.Shape.{IsShapedTree}
+use Rattle.mount_sound.specs.Marks.{IsOfMark}
+use Rattle.mount_sound.specs.Shape.{IsShapedTree}
 use Rattle.mount_sound.specs.Dropping.{IsDropping, bytes_of, log_bytes}
 use Rattle.mount_sound.specs.Flats.{AreRightFlats, IsRightFor}
 use Rattle.mount_sound.specs.Items.{HasItem, HasItemOf}

@@ -26,9 +26,9 @@ use Rattle.mount_model.specs.Paths.{Name, access_path, flats, mark_path, metadat
 use Rattle.store_api.specs.Names.{marks_folder}
 use Rattle.container_layout.specs.Paths.{openhosts}
 use Rattle.store_api.specs.Names.{marks_name}
-use Rattle.mount_shape.specs.Container.{IsContainer, IsContainerFolder, IsItemFile, IsOfId}
-use Rattle.mount_shape.specs.Marks.{HasMark, IsMarkFile, IsMarksRoom, IsOfMark}
-use Rattle.mount_shape.specs.Shape.{IsShapedTree}
+use Rattle.mount_sound.specs.Container.{IsContainer, IsContainerFolder, IsItemFile, IsOfId}
+use Rattle.mount_sound.specs.Marks.{HasMark, IsMarkFile, IsMarksRoom, IsOfMark}
+use Rattle.mount_sound.specs.Shape.{IsShapedTree}
 use Rattle.drain_sound.proofs.RoomLemmas.{with_added}
 
 -- ---- ids of marks

@@ -32,8 +32,8 @@ use Rattle.mount_sound.specs.There.{entries_there, landed_entries, landed_in}
 use Rattle.mount_sound.proofs.Facts.{content_take, entries_take, front_of_front, is_index, landed_is, length-content, mounted_sound, writes_take}
 use Rattle.mount_losses.specs.Losing.{LosesUnkept}
 use Rattle.mount_losses.proofs.Facts.{lost_told}
-use Rattle.gathering.specs.Moments.{Dropping, HadTrunc, IsSoundAt, Moment, Stood, file_in_room, file_then, file_told, index_then, issued_by, landed}
-use Rattle.gathering.proofs.Facts.{landed_at, landed_whole, length-entries}
+use Rattle.reader_laws.specs.Moments.{Dropping, HadTrunc, IsSoundAt, Moment, Stood, file_in_room, file_then, file_told, index_then, issued_by, landed}
+use Rattle.reader_laws.proofs.Gathered.Facts.{landed_at, landed_whole, length-entries}
 use Rattle.drain_sound.specs.Fronts.{IsDrainedFrom, IsFrontOf, IsTarget, index_there, log_there, dropping_in}
 use Rattle.drain_sound.specs.Kept.{IsKeptThere}
 use Rattle.drain_sound.specs.Views.{mounted_there}

@@ -19,10 +19,10 @@ use Rattle.store_laws.specs.Losing.{Repeats, Spares}
 use Rattle.store_laws.specs.Prefix.{IsPrefix}
 use Rattle.store_laws.proofs.Facts.{changed_room, create_told, file_at_same, kept_at_same, kept_told, length-overwritten, look_told, make_folder_cases, prefix_take, prefix_trans, sync_told, write_told}
 use Rattle.mount_model.specs.Paths.{Name, access_path, index_path, log_path, open_path, trunc_path}
-use Rattle.mount_shape.specs.Marks.{IsOfMark}
+use Rattle.mount_sound.specs.Marks.{IsOfMark}
 use Rattle.mount_sound.specs.Dropping.{bytes_of, log_bytes}
 use Rattle.mount_sound.proofs.Facts.{apart, owner, synced_keeps}
-use Rattle.gathering.specs.Moments.{HadTrunc, IsSoundAt, Moment, Stood}
+use Rattle.reader_laws.specs.Moments.{HadTrunc, IsSoundAt, Moment, Stood}
 use Rattle.drain_sound.specs.Fronts.{IsTarget, index_there, log_there, dropping_in}
 use Rattle.drain_sound.specs.Steps.{IsCopied, IsDrainStep, IsNamedRoom, MayCopy}
 use Rattle.drain_sound.specs.Steps as step

@@ -25,12 +25,12 @@ use Rattle.mount_sound.specs.Items.{HasItem}
 use Rattle.mount_sound.specs.Ledger.{entries_in}
 use Rattle.mount_sound.specs.Owed.{IsLawful}
 use Rattle.mount_sound.proofs.Facts.{entries_take, is_index, mounted_sound, one_tree}
-use Rattle.gathering.specs.Gathering.{Gathered, IsAdmissible, IsPrefixOf}
-use Rattle.gathering.specs.Moments.{HadTrunc, IsSoundAt, Moment, Stood, file_in_room, file_told, issued_by, landed, moment_after}
-use Rattle.gathering.specs.Opening.{HasView}
-use Rattle.gathering.specs.View.{WritersRise, cut_off, writes_in}
+use Rattle.reader_laws.specs.Gathering.{Gathered, IsAdmissible, IsPrefixOf}
+use Rattle.reader_laws.specs.Moments.{HadTrunc, IsSoundAt, Moment, Stood, file_in_room, file_told, issued_by, landed, moment_after}
+use Rattle.reader_laws.specs.GatheringOpening.{HasView}
+use Rattle.reader_laws.specs.View.{WritersRise, cut_off, writes_in}
 use Rattle.mount_sound.specs.Ledger.{change_of}
-use Rattle.gathering.proofs.Facts.{grows_after, in_a_room, in_tree, landed_whole, sound_after, stood_grows}
+use Rattle.reader_laws.proofs.Gathered.Facts.{grows_after, in_a_room, in_tree, landed_whole, sound_after, stood_grows}
 use Rattle.drain_sound.specs.Fronts.{IsTarget, dropping_in}
 use Rattle.drain_sound.specs.Views.{IsOfSource, StaysQuiet, cut_there, mounted_there}
 use Rattle.drain_sound.proofs.MarkLemmas.{item_apart}

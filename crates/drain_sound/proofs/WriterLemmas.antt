@@ -22,8 +22,8 @@ use Rattle.mount_sound.specs.Items.{HasItem, HasMeta}
 use Rattle.mount_sound.specs.Keeping.{kept_in}
 use Rattle.mount_sound.specs.Ledger.{AreWritesOf, Written, content, entries_in}
 use Rattle.mount_sound.proofs.Facts.{AreKept, IsWhole, KeepsEntries, MetasStay, all_take, are_kept, dropping_frame, entries_take, few, first_more, had, had_item_of, has_still, is_index, is_log, is_open, kept_entries, landed_is, length-content, log_frame, logged_take, owner, same_host, take_less, writes_take}
-use Rattle.gathering.specs.Moments.{Dropping, HadTrunc, IsSoundAt, Moment, Stood, issued_by, landed}
-use Rattle.gathering.proofs.Facts.{in_a_room, in_tree, landed_whole, length-entries, stands}
+use Rattle.reader_laws.specs.Moments.{Dropping, HadTrunc, IsSoundAt, Moment, Stood, issued_by, landed}
+use Rattle.reader_laws.proofs.Gathered.Facts.{in_a_room, in_tree, landed_whole, length-entries, stands}
 use Rattle.drain_sound.specs.Fronts.{IsDrainedFrom, IsFrontOf, IsSoundFront, dropping_in}
 use Rattle.drain_sound.proofs.FrontLemmas.{front_sound}
 use Rattle.drain_sound.proofs.Writes.{more_take, more_trans}

@@ -9,7 +9,7 @@ use Rattle.store_api.specs.Step.{Step}
 use Rattle.mount_model.specs.History.{Event}
 use Rattle.mount_model.specs.Paths.{Name}
 use Rattle.mount_sound.specs.Owed.{IsLawful}
-use Rattle.gathering.specs.Moments.{Moment, next_moment}
+use Rattle.reader_laws.specs.Moments.{Moment, next_moment}
 use Rattle.drain_sound.specs.Fronts.{IsTarget}
 use Rattle.drain_sound.specs.Steps.{IsDrainStep}
 

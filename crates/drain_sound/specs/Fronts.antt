@@ -16,7 +16,7 @@ use Rattle.mount_sound.specs.Growing.{IsMore}
 use Rattle.mount_sound.specs.Items.{HasItem, HasItemOf}
 use Rattle.mount_sound.specs.Ledger.{Written, content, entries_in}
 use Rattle.mount_sound.specs.Sound.{IsSoundTree}
-use Rattle.gathering.specs.Moments.{Dropping, HadTrunc, Moment, Stood, issued_by, landed}
+use Rattle.reader_laws.specs.Moments.{Dropping, HadTrunc, Moment, Stood, issued_by, landed}
 
 -- An index dropping and a log that are sound for the first of these writes: for all of them whose entry the one has whole,
 -- and whose bytes the other has.

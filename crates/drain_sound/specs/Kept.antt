@@ -10,7 +10,7 @@ use Rattle.mount_sound.specs.Dropping.{bytes_of, log_bytes}
 use Rattle.mount_sound.specs.Entries.{logged}
 use Rattle.mount_sound.specs.Keeping.{kept_in}
 use Rattle.mount_sound.specs.Ledger.{entries_in}
-use Rattle.gathering.specs.Moments.{Moment}
+use Rattle.reader_laws.specs.Moments.{Moment}
 
 -- The target's files of each writer reach no further than the entries, and their bytes, that the source's room keeps.
 pub record IsKeptThere (source : Moment) (number : ℕ) (there room : Room) : Type 0 where

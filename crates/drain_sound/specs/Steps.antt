@@ -10,10 +10,10 @@ use Rattle.store_laws.specs.Outcomes.{IsLook}
 use Rattle.mount_model.specs.Paths.{Name, index_path, log_path, mark_path, new_files, new_folders, open_path, trunc_path}
 use Rattle.store_api.specs.Names.{marks_folder}
 use Rattle.store_api.specs.Names.{marks_name}
-use Rattle.mount_shape.specs.Marks.{IsOfMark}
+use Rattle.mount_sound.specs.Marks.{IsOfMark}
 use Rattle.mount_sound.specs.Dropping.{bytes_of, log_bytes}
 use Rattle.mount_sound.specs.Items.{HasMeta}
-use Rattle.gathering.specs.Moments.{HadTrunc, Moment, Stood}
+use Rattle.reader_laws.specs.Moments.{HadTrunc, Moment, Stood}
 use Rattle.drain_sound.specs.Fronts.{index_there, log_there, dropping_in}
 
 -- the room of this number has this name

@@ -14,10 +14,10 @@ use Rattle.mount_sound.specs.Entries.{logged}
 use Rattle.mount_sound.specs.Items.{HasItem}
 use Rattle.mount_sound.specs.Ledger.{entries_in}
 use Rattle.mount_sound.specs.Sound.{IsSoundTree}
-use Rattle.gathering.specs.Gathering.{Gathered}
+use Rattle.reader_laws.specs.Gathering.{Gathered}
 use Rattle.plfs_types.specs.Places.{IsAmong}
-use Rattle.gathering.specs.Moments.{HadTrunc, Moment, landed}
-use Rattle.gathering.specs.View.{view}
+use Rattle.reader_laws.specs.Moments.{HadTrunc, Moment, landed}
+use Rattle.reader_laws.specs.View.{view}
 use Rattle.drain_sound.specs.Fronts.{dropping_in}
 
 -- the same cut in the source's room of this number

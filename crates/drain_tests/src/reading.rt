@@ -1,7 +1,7 @@
 //! Both machines, each once.
 use crate::world::{FIRST, container, reply_to};
 use drain_read::{Contained, ContainerRead, ContainerTurn, Held, HeldRead, HeldTurn, Known};
-use flow::Stuck;
+use mount_model::Stuck;
 use plfs_types::{Cover, CoverList, NoMemory};
 use std::alloc::Global;
 use std::test::Fail;

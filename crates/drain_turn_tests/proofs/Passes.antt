@@ -16,10 +16,10 @@ use Rattle.mount_sound.specs.Owed.{IsLawful, May, OwesNothing, Permits}
 use Rattle.mount_sound.specs.Sound.{IsFine}
 use Rattle.mount_sound.proofs.Facts.{owes_nothing, step_fine}
 use Rattle.store_api.specs.declared.owned.OwnedStep.{OwnedStep}
-use Rattle.flow.specs.Running.{unbroken}
-use Rattle.story.specs.Program.{ask, done}
-use Rattle.story.specs.Safe.{AreOthers, IsSafe, PassSafe}
-use Rattle.story.proofs.Facts.{entries_not_first, pass_goes, pass_may}
+use Rattle.mount_model.specs.Running.{unbroken}
+use Rattle.mount_model.specs.Program.{ask, done}
+use Rattle.mount_model.specs.Safe.{AreOthers, IsSafe, PassSafe}
+use Rattle.mount_model.proofs.Stories.Facts.{entries_not_first, pass_goes, pass_may}
 use Rattle.share_workers.specs.Passes.{ThePass, TheTurn, View}
 use Rattle.mount_model.specs.Making.{Told}
 use Rattle.drain_copy.specs.Asking.{acts, calls, ends}

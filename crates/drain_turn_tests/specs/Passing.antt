@@ -8,9 +8,9 @@ use Rattle.mount_model.specs.State.{State}
 use Rattle.mount_model.specs.Step.{IsStep}
 use Rattle.mount_sound.specs.Owed.{Permits}
 use Rattle.mount_sound.specs.Sound.{IsFine}
-use Rattle.flow.specs.Running.{unbroken}
-use Rattle.story.specs.Program.{Program, ask, done}
-use Rattle.story.specs.Safe.{PassSafe}
+use Rattle.mount_model.specs.Running.{unbroken}
+use Rattle.mount_model.specs.Program.{Program, ask, done}
+use Rattle.mount_model.specs.Safe.{PassSafe}
 use Rattle.share_workers.specs.Passes.{ThePass, TheTurn, View}
 use Rattle.mount_model.specs.Making.{Told}
 use Rattle.drain_copy.specs.Asking.{acts, calls, ends}

@@ -9,8 +9,8 @@ use Rattle.mount_model.specs.State.{State}
 use Rattle.mount_model.specs.History.{state_after}
 use Rattle.mount_model.specs.Mounting.{IsMounted}
 use Rattle.mount_sound.proofs.Facts.{mounted_sound}
-use Rattle.gathering.specs.Moments.{IsSoundAt, Moment, moment_after}
-use Rattle.gathering.proofs.Facts.{follows, sound_after}
+use Rattle.reader_laws.specs.Moments.{IsSoundAt, Moment, moment_after}
+use Rattle.reader_laws.proofs.Gathered.Facts.{follows, sound_after}
 use Rattle.actor_core.specs.Names.{names_program}
 use Rattle.program_ends.specs.Ends.{Ends}
 use Rattle.program_ends.specs.SoundTrees.{TellsSoundTree}
@@ -84,7 +84,7 @@ module _ (law : WholeLaw) (m : Moment) (sound : IsSoundAt m) where
   -- ---- one behind the other
 
   passed_file_holds : (name : Name) (old new : At) (status : ℕ) (ends : Bool) → HasOnlyLooked m.state old.state → PassesFile name old new status ends → HoldCuts m.state old.deeds new.deeds
-  passed_file_holds name old new status ends reached (passing.fills told f line) = fill_holds name old.state old.deeds told new.state new.deeds reached f
+  passed_file_holds name old new status ends reached (passing.fills told f truly line) = fill_holds name old.state old.deeds told new.state new.deeds reached f
   passed_file_holds name old new status ends reached (passing.broke_off (taking, empty, (after, begins, same)) untold is last) = hold_still m.state old.deeds new.deeds same
 
   passes_hold : (name : Name) (old new : At) (status : ℕ) (ends : Bool) → HasOnlyLooked m.state old.state → Passes name old new status ends → HoldCuts m.state old.deeds new.deeds
@@ -99,7 +99,7 @@ module _ (law : WholeLaw) (m : Moment) (sound : IsSoundAt m) where
 
   all_hold : (deeds : Option (List Deed)) (taking : Taking) (new : At) (status : ℕ) → WritesAll (at m.state deeds taking) new status → HoldCuts m.state deeds new.deeds
   all_hold deeds taking new status (passing.listed names mid makes each) = have_hold (at mid deeds taking) each.passed new each.ends status (makes_lead names_program names_look m.state _ mid makes) each.have
-  all_hold deeds taking new status (passing.unlisted why makes same said) = hold_still m.state deeds new.deeds same
+  all_hold deeds taking new status (passing.unlisted why makes truly same said) = hold_still m.state deeds new.deeds same
   all_hold deeds taking new status (passing.unnamed begins same untold is) = hold_still m.state deeds new.deeds same
 
 -- ---- the run

@@ -8,12 +8,12 @@ use Rattle.mount_model.specs.declared.call.Ask.{Ask}
 use Rattle.mount_model.specs.declared.call.Call.{Call}
 use Rattle.mount_model.specs.declared.reply.Reply.{Reply}
 use Rattle.actor_core.specs.Names.{names_program}
-use Rattle.story.specs.Program.{AsksOnly, Program, done, ask}
-use Rattle.flow.specs.Running.{Runs}
-use Rattle.flow.proofs.Facts.{runs_done, runs_next}
+use Rattle.mount_model.specs.Program.{AsksOnly, Program, done, ask}
+use Rattle.mount_model.specs.Running.{Runs}
+use Rattle.mount_model.proofs.Flows.Facts.{runs_done, runs_next}
 use Rattle.lone_flow.specs.Driving.{BeginsToMake, Makes, greets_first}
 use Rattle.opening_flow.specs.Opening.{opening_program}
-use Rattle.pack_core.proofs.Looked.{made_both}
+use Rattle.lone_flow.proofs.SmallReads.Looked.{made_both}
 use Rattle.index_reader.specs.declared.opened.OpenReader.{OpenReader}
 use Rattle.run_core.specs.Leading.{GoesOn}
 use Rattle.program_ends.specs.Leaving.{ran}
@@ -84,7 +84,7 @@ begins_lead program looks start end b = record { events = b.events; made = b.mad
 
 -- ---- one file
 
-written_leads : (reader : OpenReader) (start : State) (taking : Taking) (pieces : List (List ℕ)) (end : State) (after : Taking) → HaveWritten reader start taking pieces end after → HasOnlyLooked start end
+pub written_leads : (reader : OpenReader) (start : State) (taking : Taking) (pieces : List (List ℕ)) (end : State) (after : Taking) → HaveWritten reader start taking pieces end after → HasOnlyLooked start end
 written_leads reader start taking [] end after (same, untaken) = still start end same
 written_leads reader start taking (piece ∷ earlier) end after (mid, taken, before, made, is) =
     called_both start mid end (written_leads reader start taking earlier mid taken before) (makes_lead (piece_program reader (length earlier)) (piece_looks reader (length earlier)) mid (Ok piece) end made)
@@ -121,10 +121,10 @@ begun_fill_leads : (name : List ℕ) (start : State) (deeds : Option (List Deed)
 begun_fill_leads name start deeds end deeds_after (taking, empty, (after, begins, same)) = begun_leads name start taking end after begins
 
 passed_file_leads : (name : List ℕ) (old new : At) (status : ℕ) (ends : Bool) → PassesFile name old new status ends → HasOnlyLooked old.state new.state
-passed_file_leads name old new status ends (passing.fills told f line) = fill_leads name old.state old.deeds told new.state new.deeds f
+passed_file_leads name old new status ends (passing.fills told f truly line) = fill_leads name old.state old.deeds told new.state new.deeds f
 passed_file_leads name old new status ends (passing.broke_off begins untold is last) = begun_fill_leads name old.state old.deeds new.state new.deeds begins
 
-passes_lead : (name : List ℕ) (old new : At) (status : ℕ) (ends : Bool) → Passes name old new status ends → HasOnlyLooked old.state new.state
+pub passes_lead : (name : List ℕ) (old new : At) (status : ℕ) (ends : Bool) → Passes name old new status ends → HasOnlyLooked old.state new.state
 passes_lead name old new status ends (passing.passes logical f) = passed_file_leads name old new status ends f
 passes_lead name old new status ends (passing.none other same is last) = still old.state new.state (ap (λ (a : At). a.state) same)
 
@@ -134,7 +134,7 @@ have_lead old (name ∷ names) new ends greatest (mid, so_far, status, earlier, 
 
 pub all_lead : (old new : At) (status : ℕ) → WritesAll old new status → HasOnlyLooked old.state new.state
 all_lead old new status (passing.listed names mid makes each) = called_both old.state mid new.state (makes_lead names_program names_look old.state (Ok names) mid makes) (have_lead (at mid old.deeds old.taking) each.passed new each.ends status each.have)
-all_lead old new status (passing.unlisted why makes deeds said) = makes_lead names_program names_look old.state (Err why) new.state makes
+all_lead old new status (passing.unlisted why makes truly deeds said) = makes_lead names_program names_look old.state (Err why) new.state makes
 all_lead old new status (passing.unnamed begins deeds untold is) = begins_lead names_program names_look old.state new.state begins
 
 -- ---- the run

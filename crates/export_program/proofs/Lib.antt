@@ -5,3 +5,5 @@ mod Looks
 mod Passages
 mod Pieces
 mod Seeing
+mod Statuses
+mod Troubles

@@ -1,9 +1,9 @@
 -- The programs that name all files, open a reader and read a piece change nothing, and such calls are free.
 use Rattle.std.proofs.Common.{ℕ, ◌*◌, List, [], ◌∷◌, ◌++◌, length, replicate, take, Bool, true, false, Option, Some, None, Result, Ok, Err}
 use Rattle.std.specs.Prelude.{if◌then◌else◌, nat_lt}
-use Rattle.story.specs.Program.{AsksOnly, Program, done, ask, followed_by}
-use Rattle.flow.specs.declared.stuck.Stuck.{Stuck as Trouble}
-use Rattle.flow.specs.Replies.{Tries, bytes_in, given, on_ok}
+use Rattle.mount_model.specs.Program.{AsksOnly, Program, done, ask, followed_by}
+use Rattle.mount_model.specs.declared.stuck.Stuck.{Stuck as Trouble}
+use Rattle.mount_model.specs.FlowReplies.{Tries, bytes_in, given, on_ok}
 use Rattle.mount_model.specs.declared.call.Call.{Call}
 use Rattle.mount_model.specs.declared.call.Call.TheVariants.{Find, Greet, Look, Rooms}
 use Rattle.mount_model.specs.declared.reply.Reply.{Reply}
@@ -25,7 +25,7 @@ use Rattle.gather_flow.specs.Dealing.{dealt_to}
 use Rattle.gather_flow.specs.Gathering.{if_truncs_listed, reads_truncs, shares_from}
 use Rattle.opening_flow.specs.Opening.{opening_program, opens, reads_as}
 use Rattle.actor_core.specs.Names.{names_program}
-use Rattle.pack_core.specs.Free.{IsFreeCall}
+use Rattle.lone_flow.specs.Free.{IsFreeCall}
 use Rattle.export_program.specs.Looking.{ChangesNothing}
 use Rattle.export_program.specs.Pieces.{piece_length, piece_program}
 

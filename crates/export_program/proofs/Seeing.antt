@@ -4,9 +4,9 @@ use Rattle.std.specs.List.{AllByRecursion}
 use Rattle.std.proofs.lemmas.Grind.{div_ceil_times}
 use Rattle.std.proofs.lemmas.List.{take_all}
 use Rattle.edge_io.specs.Sink.{Taking, TakesOn}
-use Rattle.story.specs.Program.{Program}
-use Rattle.flow.specs.Running.{Runs}
-use Rattle.flow.proofs.Facts.{runs_next}
+use Rattle.mount_model.specs.Program.{Program}
+use Rattle.mount_model.specs.Running.{Runs}
+use Rattle.mount_model.proofs.Flows.Facts.{runs_next}
 use Rattle.mount_model.specs.declared.call.Call.{Call}
 use Rattle.mount_model.specs.declared.call.Call.TheVariants.{Greet}
 use Rattle.mount_model.specs.declared.reply.Reply.{Reply}
@@ -17,12 +17,12 @@ use Rattle.mount_sound.specs.Owed.{IsLawful}
 use Rattle.lone_flow.specs.Driving.{Makes, greets_first}
 use Rattle.plain_file.specs.File.{slice}
 use Rattle.index_reader.specs.declared.opened.OpenReader.{OpenReader}
-use Rattle.gathering.specs.Moments.{Moment, IsSoundAt, next_moment}
-use Rattle.gathering.proofs.Facts.{sound_after}
+use Rattle.reader_laws.specs.Moments.{Moment, IsSoundAt, next_moment}
+use Rattle.reader_laws.proofs.Gathered.Facts.{sound_after}
 use Rattle.reader_laws.specs.Opened.{HasOpenedIn}
 use Rattle.opening_flow.specs.Opening.{opening_program}
-use Rattle.unpack_laws.specs.Seen.{file_seen, moment_seen}
-use Rattle.unpack_laws.proofs.Facts.{Follows, HasReached, HasSeen, OpeningsEnd, ReadLaw, ReadsTell, follows, has_seen, reads_tell}
+use Rattle.packing_laws.specs.Seen.{file_seen, moment_seen}
+use Rattle.packing_laws.proofs.Unpacking.Facts.{Follows, HasReached, HasSeen, OpeningsEnd, ReadLaw, ReadsTell, follows, has_seen, reads_tell}
 use Rattle.export_program.specs.declared.piece.Unwritten.{Unwritten}
 use Rattle.export_program.specs.Exporting.{WritesFile, WritesOut, ended, opens, opens_stuck, whole}
 use Rattle.export_program.specs.Pieces.{HaveWritten, bytes_of, piece_length, piece_program, pieces_of}
@@ -78,13 +78,13 @@ module _ (reader : OpenReader) (file : List ℕ) (from : State) (tell : ReadsTel
 -- ---- the opening
 
 -- its calls behind the greeting
-record IsBehind {R : Type 0} (program : Program Call Reply R) (start : State) (result : R) (end : State) : Type 0 where
-  greeting : Event
-  events : List Event
-  lawful : IsLawful start (greeting ∷ events)
-  own : AllByRecursion (λ (e : Event). e.caller ≡ 0) (greeting ∷ events)
-  runs : Runs 0 program events result
-  ends : state_after start (greeting ∷ events) ≡ end
+pub record IsBehind {R : Type 0} (program : Program Call Reply R) (start : State) (result : R) (end : State) : Type 0 where
+  pub greeting : Event
+  pub events : List Event
+  pub lawful : IsLawful start (greeting ∷ events)
+  pub own : AllByRecursion (λ (e : Event). e.caller ≡ 0) (greeting ∷ events)
+  pub runs : Runs 0 program events result
+  pub ends : state_after start (greeting ∷ events) ≡ end
 
 behind_greeting : {R : Type 0} (program : Program Call Reply R) (start : State) (events : List Event) (result : R) → IsLawful start events → AllByRecursion (λ (e : Event). e.caller ≡ 0) events → Runs 0 (greets_first program) events result
     → IsBehind program start result (state_after start events)
@@ -94,7 +94,7 @@ behind_greeting program start (e ∷ es) result lawful own runs = elim (runs_nex
   | inr (mine, asked, on) ↦ record { greeting = e; events = es; lawful = lawful; own = own; runs = on; ends = refl }
 ]
 
-behind : {R : Type 0} (program : Program Call Reply R) (start : State) (result : R) (end : State) → Makes program start result end → IsBehind program start result end
+pub behind : {R : Type 0} (program : Program Call Reply R) (start : State) (result : R) (end : State) → Makes program start result end → IsBehind program start result end
 behind program start result end m = subst (λ (s : State). IsBehind program start result s) m.made.ends (behind_greeting program start m.events result m.made.lawful m.made.own m.runs)
 
 abbrev size_in : Result ℕ Unwritten → ℕ

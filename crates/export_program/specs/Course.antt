@@ -4,7 +4,7 @@ use Rattle.store_api.specs.Acts.{Stored}
 use Rattle.mount_model.specs.State.{State}
 use Rattle.mount_model.specs.Mounting.{IsMounted}
 use Rattle.mount_model.specs.Failing.{FailsToMount}
-use Rattle.mount_model.specs.declared.trouble.MountTrouble.{MountTrouble}
+use Rattle.mount_model.specs.declared.mount_trouble.MountTrouble.{MountTrouble}
 use Rattle.program_ends.specs.Ends.{Ends}
 use Rattle.program_ends.specs.SoundTrees.{TellsSoundTree}
 use Rattle.export_program.specs.Looking.{HasOnlyLooked}

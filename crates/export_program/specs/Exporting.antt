@@ -4,7 +4,7 @@ use Rattle.edge_io.specs.Sink.{Taking}
 use Rattle.mount_model.specs.State.{State}
 use Rattle.mount_model.specs.Paths.{Name}
 use Rattle.lone_flow.specs.Driving.{BeginsToMake, Makes}
-use Rattle.flow.specs.declared.stuck.Stuck.{Stuck as Trouble}
+use Rattle.mount_model.specs.declared.stuck.Stuck.{Stuck as Trouble}
 use Rattle.index_reader.specs.declared.opened.OpenReader.{OpenReader}
 use Rattle.opening_flow.specs.Opening.{opening_program}
 use Rattle.export_program.specs.declared.piece.Unwritten.{Unwritten}

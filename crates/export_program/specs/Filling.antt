@@ -1,7 +1,7 @@
 -- A file that was made, and what was written into it.
 use Rattle.std.specs.Prelude.{◌≡◌, ℕ, List, Option, Ok, Err}
 use Rattle.edge_io.specs.Sink.{Taking}
-use Rattle.flow.specs.declared.stuck.Stuck.{Stuck as Trouble}
+use Rattle.mount_model.specs.declared.stuck.Stuck.{Stuck as Trouble}
 use Rattle.mount_model.specs.State.{State}
 use Rattle.export_program.specs.Exporting.{BeginsToWrite, WritesFile}
 use Rattle.export_program.specs.declared.piece.Unwritten.TheVariants as unwritten

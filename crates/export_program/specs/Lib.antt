@@ -7,4 +7,5 @@ pub mod Pieces
 pub mod Seen
 pub mod Shelf
 pub mod Telling
+pub mod Troubles
 pub mod Words

@@ -2,7 +2,7 @@
 use Rattle.std.specs.Prelude.{◌≡◌, ◌⊎◌, ℕ, Bool, true, false, max, List, [], ◌∷◌, ◌++◌, reverse, Option, Ok, Err}
 use Rattle.plfs_types.specs.Names.{IsLogicalName}
 use Rattle.edge_io.specs.Sink.{Taking}
-use Rattle.flow.specs.declared.stuck.Stuck.{Stuck as Trouble}
+use Rattle.mount_model.specs.declared.stuck.Stuck.{Stuck as Trouble}
 use Rattle.mount_model.specs.State.{State}
 use Rattle.lone_flow.specs.Driving.{BeginsToMake, Makes}
 use Rattle.actor_core.specs.Names.{names_program}
@@ -11,6 +11,8 @@ use Rattle.program_ends.specs.Output.{IsPrinted, IsCutOff}
 use Rattle.export_program.specs.declared.filling.Filled.{Filled}
 use Rattle.export_program.specs.Filling.{BeginsToFill, Fills}
 use Rattle.export_program.specs.Shelf.{Deed}
+use Rattle.export_program.specs.declared.filling.Filled.TheVariants.{Stuck}
+use Rattle.export_program.specs.Troubles.{IsTrueTrouble}
 use Rattle.export_program.specs.Telling.{filled_line, filled_status, is_last, stuck_status, stuck_text}
 
 -- the mount, what was done where files are kept, and what the sink of the lines has taken
@@ -28,9 +30,9 @@ pub data SaysFilled (name : List ℕ) (told : Filled) (taking taking_after : Tak
   cut_off : IsCutOff (filled_line name told) taking taking_after → status ≡ 6 → ends ≡ true → SaysFilled name told taking taking_after status ends
   starved : taking_after ≡ taking → status ≡ 3 → ends ≡ true → SaysFilled name told taking taking_after status ends
 
--- The file was written out, and its line printed. Or memory was refused before, and the run ends.
+-- The file was written out, and its line printed. Its trouble is told truly. Or memory was refused before, and the run ends.
 pub data PassesFile (name : List ℕ) (old new : At) (status : ℕ) (ends : Bool) : Type 0 where
-  fills : (told : Filled) → Fills name old.state old.deeds told new.state new.deeds → SaysFilled name told old.taking new.taking status ends → PassesFile name old new status ends
+  fills : (told : Filled) → Fills name old.state old.deeds told new.state new.deeds → ((why : Trouble) → told ≡ Stuck why → IsTrueTrouble old.state why new.state) → SaysFilled name told old.taking new.taking status ends → PassesFile name old new status ends
   broke_off : BeginsToFill name old.state old.deeds new.state new.deeds → new.taking ≡ old.taking → status ≡ 3 → ends ≡ true → PassesFile name old new status ends
 
 -- a name that no file can have is passed over
@@ -52,8 +54,8 @@ pub record WritesEach (names : List (List ℕ)) (old new : At) (status : ℕ) : 
   pub have : HavePassed old passed new ends status
   pub until : (left ≡ []) ⊎ (ends ≡ true)
 
--- The store named its files, and these were written out in this order. Or it didn't, which was said; or memory was refused.
+-- The store named its files, and these were written out in this order. Or it didn't, which was said, and is told truly; or memory was refused.
 pub data WritesAll (old new : At) (status : ℕ) : Type 0 where
   listed : (names : List (List ℕ)) (mid : State) → Makes names_program old.state (Ok names) mid → WritesEach (reverse names) (at mid old.deeds old.taking) new status → WritesAll old new status
-  unlisted : (why : Trouble) → Makes names_program old.state (Err why) new.state → new.deeds ≡ old.deeds → IsReported (stuck_text why) (stuck_status why) old.taking new.taking status → WritesAll old new status
+  unlisted : (why : Trouble) → Makes names_program old.state (Err why) new.state → IsTrueTrouble old.state why new.state → new.deeds ≡ old.deeds → IsReported (stuck_text why) (stuck_status why) old.taking new.taking status → WritesAll old new status
   unnamed : BeginsToMake names_program old.state new.state → new.deeds ≡ old.deeds → new.taking ≡ old.taking → status ≡ 3 → WritesAll old new status

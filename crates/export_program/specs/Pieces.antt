@@ -2,12 +2,12 @@
 use Rattle.std.specs.Prelude.{ℕ, ◌≡◌, ◌*◌, ◌^◌, ◌++◌, List, [], ◌∷◌, length, Result, Ok, Err}
 use Rattle.std.specs.Int.{div_ceil}
 use Rattle.edge_io.specs.Sink.{Taking}
-use Rattle.story.specs.Program.{Program}
+use Rattle.mount_model.specs.Program.{Program}
 use Rattle.mount_model.specs.State.{State}
 use Rattle.mount_model.specs.declared.call.Call.{Call}
 use Rattle.mount_model.specs.declared.reply.Reply.{Reply}
 use Rattle.lone_flow.specs.Driving.{Makes}
-use Rattle.flow.specs.declared.stuck.Stuck.{Stuck as Trouble}
+use Rattle.mount_model.specs.declared.stuck.Stuck.{Stuck as Trouble}
 use Rattle.read_plan.specs.Plan.{plan_of}
 use Rattle.index_reader.specs.declared.opened.OpenReader.{OpenReader}
 use Rattle.index_reader.specs.Reading.{read_program}

@@ -2,15 +2,15 @@
 use Rattle.std.specs.Prelude.{◌≡◌, ℕ, List, ◌∷◌, ◌++◌, length, Option, Some, None, Ok, IfSome}
 use Rattle.std.specs.List.{AllByRecursion}
 use Rattle.edge_io.specs.Sink.{Taking}
-use Rattle.flow.specs.Running.{Runs}
+use Rattle.mount_model.specs.Running.{Runs}
 use Rattle.mount_model.specs.History.{Event}
 use Rattle.mount_model.specs.State.{State}
 use Rattle.mount_sound.specs.Owed.{IsLawful}
-use Rattle.gathering.specs.Moments.{IsSoundAt, Moment, next_moment}
+use Rattle.reader_laws.specs.Moments.{IsSoundAt, Moment, next_moment}
 use Rattle.index_reader.specs.declared.opened.OpenReader.{OpenReader}
 use Rattle.opening_flow.specs.Opening.{opening_program}
 use Rattle.reader_laws.specs.Opened.{HasOpenedIn}
-use Rattle.unpack_laws.specs.Seen.{file_seen}
+use Rattle.packing_laws.specs.Seen.{file_seen}
 use Rattle.program_ends.specs.Output.{IsPrinted}
 use Rattle.export_program.specs.Looking.{HasOnlyLooked}
 use Rattle.export_program.specs.Shelf.{Deed, kept, unkept, unmade}

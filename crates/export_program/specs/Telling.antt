@@ -1,8 +1,8 @@
 -- What is said of a file that was written out, or wasn't.
 use Rattle.std.specs.Prelude.{ℕ, Bool, true, false, List, [], ◌∷◌, ◌++◌, codes}
 use Rattle.std.specs.Fmt.{decimal}
-use Rattle.flow.specs.declared.stuck.Stuck.{Stuck as Trouble}
-use Rattle.flow.specs.declared.stuck.Stuck.TheVariants as trouble
+use Rattle.mount_model.specs.declared.stuck.Stuck.{Stuck as Trouble}
+use Rattle.mount_model.specs.declared.stuck.Stuck.TheVariants as trouble
 use Rattle.outcomes.specs.Outcomes.{stuck_outcome}
 use Rattle.report_text.specs.Text.{text_of}
 use Rattle.program_ends.specs.Reported.{line_zero}

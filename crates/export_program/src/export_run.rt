@@ -1,5 +1,7 @@
 //! The whole of a run that writes out all files: mount, work, output, status.
-ghost use Rattle.std.specs.Prelude.{option_map};
+ghost use Rattle.std.specs.Prelude.{◌≡◌, ◌≢◌, Some, option_map};
+ghost use Rattle.plfs_types.specs.Counts.{HasRisen};
+ghost use Rattle.store_api.specs.Acts.{Stored};
 ghost use Rattle.program_ends.specs.Ends.{ends_of};
 ghost use Rattle.program_ends.specs.SoundTrees.{LeavesSoundTree, TellsSoundTree};
 ghost use Rattle.export_program.specs.Course.{ExportCourse};
@@ -21,8 +23,9 @@ use store_api::Store;
 /// made or written, or of which an item is damaged. Behind a fault of the store, and where a line can't be printed or memory is refused,
 /// it ends. The status is the greatest of those of the files.
 ///
-/// No call changes anything in the store but the mounting's own. Where the store told a sound tree, a file that is kept has the bytes of
-/// one cut of its container as the mounting left it.
+/// No call changes anything in the store but the mounting's own. A fault of the store is told only where its count of faults has risen.
+/// Where the store told a sound tree, no damage is told, and a file that is kept has the bytes of one cut of its container as the mounting
+/// left it.
 #[inline(never)]
 pub fn export<S: Store + Drop, C: Clock + Drop, F: Sink, H: Shelf<F>, O: Sink>(
     alloc: Global,
@@ -32,6 +35,8 @@ pub fn export<S: Store + Drop, C: Clock + Drop, F: Sink, H: Shelf<F>, O: Sink>(
     clock: C,
 ) -> Ended<S>
     ensures course { ExportCourse (H.deeds shelf.old) (H.deeds shelf.new) (ends_of (C.times clock) (O.taking out.old) (O.taking out.new) (S.stored store) (option_map S.stored result.store)) result.status }
+    ensures cause { result.status ≡ 4 → (after : Stored) × (option_map S.stored result.store ≡ Some after) × HasRisen (S.stored store).faults after.faults }
+    ensures undamaged { TellsSoundTree (S.stored store) → result.status ≢ 7 }
     ensures sound { TellsSoundTree (S.stored store) → LeavesSoundTree (option_map S.stored result.store) }
 {
     a_failed_mounting_leaves_a_sound_tree();

@@ -6,8 +6,8 @@ ghost use Rattle.export_program.specs.Exporting.{BeginsToWrite, BeginsToWriteOut
 use crate::piece::{PIECE, Unwritten, write_piece};
 use edge_io::{Clock, Sink};
 use index_reader::OpenReader;
+use lone_flow::open_reader;
 use mount_core::Mount;
-use pack_core::open_reader;
 use plfs_types::{LogicalName, NoMemory};
 use std::alloc::Global;
 use store_api::Store;

@@ -3,7 +3,7 @@ ghost use Rattle.std.specs.Prelude.{ℕ, Ok};
 ghost use Rattle.edge_io.specs.Sink.{Taking};
 ghost use Rattle.mount_model.specs.Paths.{Name};
 ghost use Rattle.mount_model.specs.State.{State};
-ghost use Rattle.gathering.specs.Moments.{Moment, IsSoundAt};
+ghost use Rattle.reader_laws.specs.Moments.{Moment, IsSoundAt};
 ghost use Rattle.export_program.specs.Exporting.{WritesFile};
 ghost use Rattle.export_program.specs.Seen.{IsSeenWhole};
 

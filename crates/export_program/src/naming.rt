@@ -6,9 +6,9 @@ ghost use Rattle.actor_core.specs.Names.{names_program};
 
 use actor_core::NamesRead;
 use edge_io::Clock;
-use flow::Stuck;
+use lone_flow::drive_freely;
 use mount_core::Mount;
-use pack_core::drive_freely;
+use mount_model::Stuck;
 use plfs_types::{NameList, NoMemory};
 use store_api::Store;
 

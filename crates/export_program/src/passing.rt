@@ -10,11 +10,13 @@ use crate::naming::list_files;
 use crate::shelf::Shelf;
 use crate::telling::{filled_line, filled_status, is_last};
 use edge_io::{Clock, Sink};
-use flow::Stuck;
 use mount_core::Mount;
+use mount_model::Stuck;
+use opening_laws::an_opening_opens_a_reader;
 use outcomes::stuck_outcome;
 use plfs_types::{LogicalName, Name, NameList};
 use program_ends::{greater, say_line, write_out};
+use reader_laws::an_open_reader_reads_its_file;
 use script_lang::Line;
 use std::alloc::Global;
 use store_api::Store;
@@ -69,6 +71,8 @@ fn pass_named<S: Store + Drop, C: Clock + Drop, F: Sink, H: Shelf<F>, O: Sink>(
     ensures passes { PassesFile name (at mount.old (H.deeds shelf.old) (O.taking out.old)) (at mount.new (H.deeds shelf.new) (O.taking out.new)) result.status result.ends }
     ensures fine { IsFine mount.new }
 {
+    an_opening_opens_a_reader();
+    an_open_reader_reads_its_file();
     let Ok(filled) = fill(alloc, mount, name, shelf) else {
         return broken(3);
     };

@@ -5,10 +5,10 @@ ghost use Rattle.lone_flow.specs.Driving.{BeginsToMake, Makes};
 ghost use Rattle.export_program.specs.Pieces.{WritesPiece, piece_program};
 
 use edge_io::{Clock, Sink};
-use flow::Stuck;
 use index_reader::{OpenReader, Reading};
+use lone_flow::drive_freely;
 use mount_core::Mount;
-use pack_core::drive_freely;
+use mount_model::Stuck;
 use plfs_types::{Bytes, NoMemory};
 use program_ends::write_out;
 use std::alloc::Global;
@@ -27,7 +27,7 @@ pub(crate) enum Unwritten {
 }
 
 /// Reads piece `k`. After `NoMemory` the calls are a front of those.
-#[tactic(auto, using(pack_core::proofs::Broken::begins_none))]
+#[tactic(auto, using(lone_flow::proofs::SmallReads::Broken::begins_none))]
 fn read_piece<S: Store + Drop, C: Clock + Drop>(
     alloc: Global,
     mount: &mut Mount<S, C>,

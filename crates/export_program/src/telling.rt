@@ -3,7 +3,7 @@ ghost use Rattle.std.specs.Prelude.{◌≡◌, ◌++◌, IfOk, OnOk};
 ghost use Rattle.export_program.specs.Telling.{filled_line as line_of, filled_status as status, filled_text as text_of, is_fault as fault, is_last as ends_run, stuck_status as status_stuck, stuck_text as text_stuck};
 
 use crate::filling::Filled;
-use flow::Stuck;
+use mount_model::Stuck;
 use outcomes::stuck_outcome;
 use plfs_types::{LogicalName, NoMemory};
 use program_ends::push_number;

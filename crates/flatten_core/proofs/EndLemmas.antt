@@ -1,10 +1,10 @@
 -- The end of a flattening, and of the machine that does all of it.
 use Rattle.std.proofs.Common.{◌≡◌, true, refl}
-use Rattle.flow.specs.declared.stuck.Stuck.{Stuck}
-use Rattle.flow.specs.Standing.{IsOver, ready, rest_of}
-use Rattle.flow.specs.Composed.{is_awaiting}
+use Rattle.mount_model.specs.declared.stuck.Stuck.{Stuck}
+use Rattle.mount_model.specs.Standing.{IsOver, ready, rest_of}
+use Rattle.mount_model.specs.Composed.{is_awaiting}
 use Rattle.std.specs.Prelude.{ℕ, Result}
-use Rattle.flow.specs.Replies.{on_ok}
+use Rattle.mount_model.specs.FlowReplies.{on_ok}
 use Rattle.index_reader.specs.OpenStages.{open_standing}
 use Rattle.gather_flow.specs.Gathering.{gather_rest}
 use Rattle.flatten_core.specs.declared.flattening.Flattened.{Flattened}
@@ -17,7 +17,7 @@ use Rattle.flatten_core.specs.Installing.{syncs_listed}
 use Rattle.flatten_core.specs.Parts.{parted, IsPartUnderway}
 use Rattle.flatten_core.specs.Stages.{installing, IsUnderway}
 use Rattle.flatten_core.specs.StartStages.{starting}
-use Rattle.flow.proofs.Composing.{awaiting_then, calling_not_over, not_over}
+use Rattle.mount_model.proofs.Flows.Composing.{awaiting_then, calling_not_over, not_over}
 
 -- a stage that hasn't ended has a call
 pub not_ended : (room flat : ℕ) (stage : Stage) → IsUnderway stage → ((outcome : Result (Unit {0}) Stuck) → stage ≡ Ended outcome → ⊥) → is_awaiting (rest_of (installing room flat stage)) ≡ true

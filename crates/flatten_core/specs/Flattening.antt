@@ -2,10 +2,10 @@
 use Rattle.std.specs.Prelude.{[], length, Result, Ok}
 use Rattle.flat_format.specs.declared.flat.Flat.{Flat}
 use Rattle.flat_format.specs.Spelling.{flat_spelling}
-use Rattle.flow.specs.declared.stuck.Stuck.{Stuck}
-use Rattle.story.specs.Program.{done, followed_by}
+use Rattle.mount_model.specs.declared.stuck.Stuck.{Stuck}
+use Rattle.mount_model.specs.Program.{done, followed_by}
 use Rattle.mount_model.specs.Paths.{Name}
-use Rattle.flow.specs.Replies.{Tries, on_ok}
+use Rattle.mount_model.specs.FlowReplies.{Tries, on_ok}
 use Rattle.index_reader.specs.declared.listing.Listing.{Listing}
 use Rattle.index_reader.specs.Opening.{open_at_program}
 use Rattle.gather_flow.specs.declared.all_read.AllRead.{AllRead}

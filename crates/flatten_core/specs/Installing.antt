@@ -3,13 +3,13 @@
 use Rattle.std.specs.Prelude.{ℕ, true, false, List, [], ◌∷◌, Result, Ok, Err}
 use Rattle.plfs_types.specs.declared.entries.Cover.{Cover}
 use Rattle.flat_format.specs.declared.flat.TheConstants.{HEAD_SIZE}
-use Rattle.flow.specs.declared.stuck.Stuck.{Stuck}
-use Rattle.story.specs.Program.{done, ask, followed_by}
+use Rattle.mount_model.specs.declared.stuck.Stuck.{Stuck}
+use Rattle.mount_model.specs.Program.{done, ask, followed_by}
 use Rattle.mount_model.specs.declared.call.Call.TheVariants.{SyncDropping, PutFlat, SyncFlat, InstallFlat}
 use Rattle.mount_model.specs.declared.reply.Reply.{Reply}
 use Rattle.mount_model.specs.declared.reply.Reply.TheVariants.{Done}
 use Rattle.mount_model.specs.Paths.{flat_path}
-use Rattle.flow.specs.Replies.{Tries, on_ok, damage, failure}
+use Rattle.mount_model.specs.FlowReplies.{Tries, on_ok, damage, failure}
 use Rattle.index_reader.specs.declared.listing.Dropping.{Dropping}
 use Rattle.index_reader.specs.declared.listing.Listing.{Listing}
 use Rattle.index_reader.specs.Opening.{scan_program}

@@ -1,12 +1,12 @@
 -- Where the stages of an installing stand in its program.
 use Rattle.std.specs.Prelude.{◌≡◌, ℕ, ◌+◌, ◌*◌, Bool, true, length, Result}
-use Rattle.flow.specs.declared.stuck.Stuck.{Stuck}
-use Rattle.story.specs.Program.{done, followed_by}
-use Rattle.flow.specs.Standing.{Standing, asked, ready, rest_of}
-use Rattle.flow.specs.Composed.{is_awaiting}
+use Rattle.mount_model.specs.declared.stuck.Stuck.{Stuck}
+use Rattle.mount_model.specs.Program.{done, followed_by}
+use Rattle.mount_model.specs.Standing.{Standing, asked, ready, rest_of}
+use Rattle.mount_model.specs.Composed.{is_awaiting}
 use Rattle.mount_model.specs.declared.call.Call.{Call}
 use Rattle.mount_model.specs.declared.reply.Reply.{Reply}
-use Rattle.flow.specs.Replies.{on_ok}
+use Rattle.mount_model.specs.FlowReplies.{on_ok}
 use Rattle.index_reader.specs.OpenStages.{open_calls_left, open_rest, open_standing}
 use Rattle.flatten_core.specs.declared.stages.Stage.{Stage}
 use Rattle.flatten_core.specs.declared.stages.Stage.TheVariants.{Scanning, SyncingLog, SyncingIndex, Putting, Put, SyncingFlat, Installing, Ended}

@@ -1,12 +1,12 @@
 -- The calls that begin a flattening: Find, StartFlat.
 use Rattle.std.specs.Prelude.{ℕ, Result, Ok, Err}
-use Rattle.flow.specs.declared.stuck.Stuck.{Stuck}
-use Rattle.story.specs.Program.{done, ask}
+use Rattle.mount_model.specs.declared.stuck.Stuck.{Stuck}
+use Rattle.mount_model.specs.Program.{done, ask}
 use Rattle.mount_model.specs.declared.call.Call.TheVariants.{Find, StartFlat}
 use Rattle.mount_model.specs.declared.reply.Reply.{Reply}
 use Rattle.mount_model.specs.declared.reply.Reply.TheVariants as reply_of
 use Rattle.mount_model.specs.Paths.{Name}
-use Rattle.flow.specs.Replies.{Tries, given, room_in, failure}
+use Rattle.mount_model.specs.FlowReplies.{Tries, given, room_in, failure}
 use Rattle.flatten_core.specs.declared.starting.Started.{Started}
 
 -- what was begun in this room

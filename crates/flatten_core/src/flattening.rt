@@ -2,8 +2,7 @@
 use crate::parts::Part;
 use crate::starting::Stage as Beginning;
 use crate::underway::Underway;
-use flow::{Flow, Stuck};
-use mount_model::{Call, Reply};
+use mount_model::{Call, Flow, Reply, Stuck};
 use plfs_types::{CoverList, LogicalName, NoMemory};
 use std::alloc::Global;
 use std::mem;
@@ -32,7 +31,7 @@ pub struct FlattenFlow {
 
 impl FlattenFlow {
     ghost use Rattle.std.specs.Prelude.{◌≡◌};
-    ghost use Rattle.flow.specs.Standing.{ready};
+    ghost use Rattle.mount_model.specs.Standing.{ready};
     ghost use Rattle.flatten_core.specs.Flattening.{flatten_program};
     ghost use Rattle.flatten_core.specs.FlattenStages.{flatten_standing};
 

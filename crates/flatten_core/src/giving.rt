@@ -1,7 +1,7 @@
 //! The next call of each part of a whole flattening, and the part once it was given.
 ghost use Rattle.std.specs.Prelude.{◌≡◌, true, Some, IfOk, IfSome};
-ghost use Rattle.flow.specs.Standing.{ready, next_of, rest_of};
-ghost use Rattle.flow.specs.Composed.{is_awaiting};
+ghost use Rattle.mount_model.specs.Standing.{ready, next_of, rest_of};
+ghost use Rattle.mount_model.specs.Composed.{is_awaiting};
 ghost use Rattle.mount_model.specs.Step.{OwedBy};
 ghost use Rattle.index_reader.specs.OpenStages.{open_standing};
 ghost use Rattle.flatten_core.specs.Parts.{parted, parts_left, IsPartUnderway};
@@ -12,10 +12,9 @@ use crate::flattening::Flattened;
 use crate::parts::Part;
 use crate::stages::Stage as Ending;
 use crate::starting::{Stage as Beginning, Started};
-use flow::Flow;
 use gather_flow::Gathering;
 use index_reader::{OpenRead, look_on};
-use mount_model::Call;
+use mount_model::{Call, Flow};
 use plfs_types::NoMemory;
 
 /// The next call of the beginning.

@@ -1,16 +1,15 @@
 //! The end of a flattening.
 ghost use Rattle.std.specs.Prelude.{◌≡◌, ◌≤◌, ◌+◌, ◌*◌, ◌^◌, IfOk};
 ghost use Rattle.flat_format.specs.Spelling.{flat_spelling};
-ghost use Rattle.flow.specs.Standing.{ready};
+ghost use Rattle.mount_model.specs.Standing.{ready};
 ghost use Rattle.flatten_core.specs.Installing.{install_program};
 ghost use Rattle.flatten_core.specs.Stages.{installing, installs_left, IsUnderway};
 
 use crate::stages::Stage;
 use crate::starting::Started;
 use flat_format::{Flat, encode};
-use flow::{Flow, Stuck};
 use index_reader::OpenRead;
-use mount_model::{Call, Reply};
+use mount_model::{Call, Flow, Reply, Stuck};
 use plfs_types::{Cover, CoverList, NoMemory};
 use std::alloc::Global;
 use std::mem;

@@ -2,7 +2,7 @@
 //!
 //! The end lists the droppings again, syncs those that are covered, so that no loss of power takes what the flattened
 //! index tells of, and then puts, syncs and installs it. The crate owns which calls each makes, in which order, and what
-//! comes of the replies. It stands on `flow`, on the listing of `index_reader` and on
+//! comes of the replies. It stands on `mount_model`, on the listing of `index_reader` and on
 //! the gathering of `gather_flow`, and needs no mount.
 #![tactic(auto)]
 

@@ -1,10 +1,10 @@
 //! The parts of a whole flattening, one after the other.
 ghost use Rattle.std.specs.Prelude.{◌≡◌, ◌<◌, ◌≤◌, ◌+◌, ◌^◌, true, Option, Some, IfOk, IfSome};
 ghost use Rattle.mount_model.specs.declared.call.Call.{Call as Asked};
-ghost use Rattle.story.specs.Program.{followed_by};
-ghost use Rattle.flow.specs.Standing.{ready, next_of, rest_of, replied, Awaits, IsFresh, IsOver};
-ghost use Rattle.flow.specs.Composed.{calling, is_awaiting, then_on};
-ghost use Rattle.flow.specs.Replies.{on_ok};
+ghost use Rattle.mount_model.specs.Program.{followed_by};
+ghost use Rattle.mount_model.specs.Standing.{ready, next_of, rest_of, replied, Awaits, IsFresh, IsOver};
+ghost use Rattle.mount_model.specs.Composed.{calling, is_awaiting, then_on};
+ghost use Rattle.mount_model.specs.FlowReplies.{on_ok};
 ghost use Rattle.mount_model.specs.Step.{OwedBy};
 ghost use Rattle.index_reader.specs.Covered.{AreByWriter as AreCoversByWriter};
 ghost use Rattle.index_reader.specs.Listing.{AreByWriter};
@@ -21,10 +21,9 @@ use crate::installing::{copied, first_stage};
 use crate::stages::Stage as Ending;
 use crate::starting::{Stage as Beginning, Started};
 use flat_format::Flat;
-use flow::{Flow, Stuck};
 use gather_flow::{AllRead, Called, Gathering, Listed};
 use index_reader::{Listing, OpenRead};
-use mount_model::{Call, Reply};
+use mount_model::{Call, Flow, Reply, Stuck};
 use plfs_types::NoMemory;
 use std::alloc::Global;
 

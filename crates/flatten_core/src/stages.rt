@@ -1,23 +1,22 @@
 //! The stages of the end of a flattening.
 ghost use Rattle.std.specs.Prelude.{◌≡◌, ◌<◌, ◌≤◌, ◌+◌, ◌*◌, ℕ, true, length, Result, Some, IfOk, IfSome};
-ghost use Rattle.flow.specs.Standing.{ready, next_of, rest_of, replied, Awaits};
-ghost use Rattle.flow.specs.Composed.{is_awaiting};
-ghost use Rattle.flow.specs.Replies.{Tries, on_ok};
+ghost use Rattle.mount_model.specs.Standing.{ready, next_of, rest_of, replied, Awaits};
+ghost use Rattle.mount_model.specs.Composed.{is_awaiting};
+ghost use Rattle.mount_model.specs.FlowReplies.{Tries, on_ok};
 ghost use Rattle.index_reader.specs.Listing.{AreByWriter};
 ghost use Rattle.index_reader.specs.OpenStages.{open_calls_left, open_rest, open_standing};
 ghost use Rattle.index_reader.specs.declared.listing.Listing.{Listing as Listed};
-ghost use Rattle.flow.specs.declared.stuck.Stuck.{Stuck as Trouble};
+ghost use Rattle.mount_model.specs.declared.stuck.Stuck.{Stuck as Trouble};
 ghost use Rattle.mount_model.specs.declared.call.Call.TheVariants as calls;
 ghost use Rattle.mount_model.specs.Step.{OwedBy};
-ghost use Rattle.story.specs.Program.{followed_by};
+ghost use Rattle.mount_model.specs.Program.{followed_by};
 ghost use Rattle.flatten_core.specs.Installing.{done_or as done_or_of, if_done as if_done_of, syncs, syncs_listed};
 ghost use Rattle.flatten_core.specs.Stages.{installing, installs_left, IsUnderway};
 
 use crate::covered::covered;
 use container_layout::{Item, print};
-use flow::{Flow, Stuck, damage, failure};
 use index_reader::{AfterOpen, Dropping, Listing, OpenRead};
-use mount_model::{Call, Reply};
+use mount_model::{Call, Flow, Reply, Stuck, damage, failure};
 use plfs_types::{Bytes, CoverList, NoMemory, Queue};
 use std::alloc::Global;
 

@@ -1,12 +1,11 @@
 //! The beginning of a flattening.
 ghost use Rattle.std.specs.Prelude.{◌≡◌, ◌<◌, IfSome};
 ghost use Rattle.mount_model.specs.Step.{OwedBy};
-ghost use Rattle.flow.specs.Standing.{ready, next_of, rest_of, replied, Awaits};
+ghost use Rattle.mount_model.specs.Standing.{ready, next_of, rest_of, replied, Awaits};
 ghost use Rattle.flatten_core.specs.Starting.{begun as begun_of, start_program};
 ghost use Rattle.flatten_core.specs.StartStages.{starting, starts_left, start_standing, start_left};
 
-use flow::{Flow, Stuck, failure, room_in};
-use mount_model::{Call, Reply};
+use mount_model::{Call, Flow, Reply, Stuck, failure, room_in};
 use plfs_types::{LogicalName, NoMemory};
 
 /// A flattening that was begun.

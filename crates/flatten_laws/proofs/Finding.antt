@@ -12,13 +12,13 @@ use Rattle.flat_format.specs.declared.flat.TheConstants.{COVER_SIZE, HEAD_SIZE}
 use Rattle.mount_model.specs.History.{Event}
 use Rattle.mount_model.specs.State.{State}
 use Rattle.mount_sound.specs.Owed.{IsLawful, StandsInRoom}
-use Rattle.flow.specs.Running.{Runs}
+use Rattle.mount_model.specs.Running.{Runs}
 use Rattle.index_reader.specs.declared.listing.Dropping.{Dropping}
 use Rattle.index_reader.specs.declared.listing.Listing.{Listing}
 use Rattle.index_reader.specs.Found.{item_of}
 use Rattle.index_reader.specs.Opening.{scan_program}
 use Rattle.flatten_core.specs.Covered.{covered, or_place}
-use Rattle.gathering.specs.Moments.{Moment, IsSoundAt, Stood, file_in_room, file_told}
+use Rattle.reader_laws.specs.Moments.{Moment, IsSoundAt, Stood, file_in_room, file_told}
 use Rattle.recovery_laws.proofs.Facts.{HasFirst}
 use Rattle.flatten_laws.proofs.Owns.{Own, own_cover}
 use Rattle.flatten_laws.proofs.Scanned.{scanned_finds}

@@ -13,13 +13,13 @@ use Rattle.flat_format.specs.declared.flat.Flat.{Flat}
 use Rattle.flat_format.specs.declared.flat.TheConstants.{HEAD_SIZE}
 use Rattle.flat_format.specs.Spelling.{flat_spelling}
 use Rattle.turn_object.specs.Callers.{made_by}
-use Rattle.flow.specs.declared.stuck.Stuck.{Stuck}
-use Rattle.flow.specs.Running.{asking, unbroken, Runs}
-use Rattle.flow.proofs.Facts.{runs_in_two}
-use Rattle.story.specs.Calls.{AreCallsOf}
-use Rattle.story.specs.Program.{Program, done, ask, followed_by}
-use Rattle.story.specs.Safe.{IsSafe}
-use Rattle.story.proofs.Facts.{entries_both}
+use Rattle.mount_model.specs.declared.stuck.Stuck.{Stuck}
+use Rattle.mount_model.specs.Running.{asking, unbroken, Runs}
+use Rattle.mount_model.proofs.Flows.Facts.{runs_in_two}
+use Rattle.mount_model.specs.Calls.{AreCallsOf}
+use Rattle.mount_model.specs.Program.{Program, done, ask, followed_by}
+use Rattle.mount_model.specs.Safe.{IsSafe}
+use Rattle.mount_model.proofs.Stories.Facts.{entries_both}
 use Rattle.mount_model.specs.declared.call.Call.{Call}
 use Rattle.mount_model.specs.declared.call.Call.TheVariants.{Find, StartFlat}
 use Rattle.mount_model.specs.declared.reply.Reply.{Reply}
@@ -33,7 +33,7 @@ use Rattle.mount_sound.specs.Items.{HasItem}
 use Rattle.mount_sound.specs.Owed.{IsLawful, Permits, StandsInRoom}
 use Rattle.mount_sound.specs.Sound.{IsClean, IsFine, IsSoundFor}
 use Rattle.mount_sound.proofs.Facts.{was_clean}
-use Rattle.flow.specs.Replies.{failure, given, on_ok, room_in, Tries, on_ok as then_on_ok}
+use Rattle.mount_model.specs.FlowReplies.{failure, given, on_ok, room_in, Tries, on_ok as then_on_ok}
 use Rattle.index_reader.specs.declared.listing.Dropping.{Dropping as Listed}
 use Rattle.index_reader.specs.declared.listing.Listing.{Listing}
 use Rattle.index_reader.specs.declared.sharing.Share.{Share}
@@ -52,11 +52,11 @@ use Rattle.flatten_core.specs.Covered.{covered}
 use Rattle.flatten_core.specs.Flattening.{flatten_program, flattened, gathers, installs_gathered, installs_index, lists, tells}
 use Rattle.flatten_core.specs.Installing.{install_program, syncs_covered, syncs_listed}
 use Rattle.flatten_core.specs.Starting.{begins, begun}
-use Rattle.gathering.specs.Moments.{Moment, IsSoundAt, moment_after}
-use Rattle.gathering.specs.Seen.{calls_of}
+use Rattle.reader_laws.specs.Moments.{Moment, IsSoundAt, moment_after}
+use Rattle.reader_laws.specs.Seen.{calls_of}
 use Rattle.plfs_types.specs.Places.{IsAmong}
-use Rattle.gathering.proofs.Facts.{follows, is_among, legal_first, sound_after}
-use Rattle.holding_laws.proofs.Facts.{LastsOne, fine_lasts, may_free, safe_ask, safe_free}
+use Rattle.reader_laws.proofs.Gathered.Facts.{follows, is_among, legal_first, sound_after}
+use Rattle.recovery_laws.proofs.Holds.Facts.{LastsOne, fine_lasts, may_free, safe_ask, safe_free}
 use Rattle.recovery_laws.proofs.Facts.{Cleanly, Stays, cleanly_then}
 use Rattle.reader_laws.specs.Listing.{HasListed}
 use Rattle.reader_laws.specs.Opening.{AreDealt, OpensAlone, Portion, WritersDiffer, droppings_of}

@@ -8,10 +8,10 @@ use Rattle.flat_format.specs.Spelling.{flat_spelling}
 use Rattle.flat_format.specs.Valid.{IsFlat}
 use Rattle.store_api.specs.declared.tree.Room.{Room}
 use Rattle.store_api.specs.declared.tree.Tree.{Tree}
-use Rattle.flow.specs.declared.stuck.Stuck.{Stuck}
-use Rattle.flow.specs.Running.{asking, unbroken}
-use Rattle.story.specs.Program.{followed_by}
-use Rattle.story.specs.Safe.{IsSafe}
+use Rattle.mount_model.specs.declared.stuck.Stuck.{Stuck}
+use Rattle.mount_model.specs.Running.{asking, unbroken}
+use Rattle.mount_model.specs.Program.{followed_by}
+use Rattle.mount_model.specs.Safe.{IsSafe}
 use Rattle.mount_model.specs.declared.call.Ask.{Ask}
 use Rattle.mount_model.specs.declared.call.Call.{Call}
 use Rattle.mount_model.specs.declared.call.Call.TheVariants.{InstallFlat, PutFlat, SyncDropping, SyncFlat}
@@ -24,10 +24,10 @@ use Rattle.mount_sound.specs.Ledger.{Ledger}
 use Rattle.mount_sound.specs.Owed.{May, MayPut, Owes, Permits, StandsInRoom}
 use Rattle.mount_sound.specs.Sound.{IsFine, IsSoundFor}
 use Rattle.mount_sound.proofs.Facts.{some_logged, some_room, step_fine}
-use Rattle.flow.specs.Replies.{Tries, failure}
+use Rattle.mount_model.specs.FlowReplies.{Tries, failure}
 use Rattle.index_reader.specs.declared.listing.Dropping.{Dropping}
 use Rattle.flatten_core.specs.Installing.{done_or, if_done, installs, puts, syncs, syncs_both, syncs_flat, syncs_index}
-use Rattle.holding_laws.proofs.Facts.{LastsOne, safe_ask, safe_free}
+use Rattle.recovery_laws.proofs.Holds.Facts.{LastsOne, safe_ask, safe_free}
 use Rattle.recovery_laws.proofs.Facts.{Cleanly, HasFirst, Stays, cleanly_so, cleanly_then}
 use Rattle.flatten_laws.proofs.Owns.{Own, IsOwn, AreOwn, all_entries, own_cover}
 use Rattle.flatten_laws.proofs.Taken.{EachFirst}

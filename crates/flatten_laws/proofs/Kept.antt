@@ -6,7 +6,7 @@ use Rattle.container_layout.specs.declared.items.Item.TheVariants.{Index, Log}
 use Rattle.store_api.specs.declared.tree.Room.{Room}
 use Rattle.store_api.specs.declared.tree.Tree.{Tree}
 use Rattle.store_laws.specs.Files.{kept_at}
-use Rattle.flow.specs.Running.{unbroken}
+use Rattle.mount_model.specs.Running.{unbroken}
 use Rattle.mount_model.specs.declared.call.Ask.{Ask}
 use Rattle.mount_model.specs.declared.call.Call.TheVariants.{SyncDropping}
 use Rattle.mount_model.specs.declared.reply.Reply.{Reply}

@@ -9,9 +9,9 @@ use Rattle.plfs_types.specs.declared.limits.TheConstants.{MAX_LOG}
 use Rattle.index_entry.specs.Entries.{AreEntriesOf, logged}
 use Rattle.mount_sound.specs.Ledger.{Written, entries_in}
 use Rattle.mount_sound.proofs.Facts.{entries_take, in_order_take, logged_take}
-use Rattle.gathering.specs.Moments.{Moment, IsSoundAt, issued_by}
-use Rattle.gathering.specs.Gathering.{Gathered}
-use Rattle.gathering.specs.View.{own_entries, writes_in}
+use Rattle.reader_laws.specs.Moments.{Moment, IsSoundAt, issued_by}
+use Rattle.reader_laws.specs.Gathering.{Gathered}
+use Rattle.reader_laws.specs.View.{own_entries, writes_in}
 use Rattle.reader_laws.specs.Covering.{counts_in, cover_with, empty_cover}
 
 -- the first entries of a writer

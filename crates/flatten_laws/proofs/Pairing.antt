@@ -18,7 +18,7 @@ use Rattle.mount_sound.proofs.Facts.{one_tree, some_room}
 use Rattle.index_reader.specs.declared.listing.Dropping.{Dropping}
 use Rattle.index_reader.specs.Found.{item_of}
 use Rattle.flatten_core.specs.Covered.{covered, or_place}
-use Rattle.gathering.proofs.Facts.{alike}
+use Rattle.reader_laws.proofs.Gathered.Facts.{alike}
 use Rattle.recovery_laws.proofs.Facts.{HasFirst}
 use Rattle.flatten_laws.proofs.Owns.{Own, IsOwn, AreOwn, all_entries, own_cover}
 use Rattle.flatten_laws.proofs.Taken.{EachFirst}

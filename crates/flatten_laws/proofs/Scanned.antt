@@ -7,15 +7,15 @@ use Rattle.container_layout.specs.declared.items.Item.TheVariants.{Index}
 use Rattle.mount_model.specs.History.{Event}
 use Rattle.mount_sound.specs.Items.{HasItem}
 use Rattle.mount_sound.specs.Owed.{IsLawful, StandsInRoom}
-use Rattle.flow.specs.Running.{Runs}
+use Rattle.mount_model.specs.Running.{Runs}
 use Rattle.index_reader.specs.declared.listing.Dropping.{Dropping as Listed}
 use Rattle.index_reader.specs.declared.listing.Listing.{Listing}
 use Rattle.index_reader.specs.Opening.{no_flat, scan_program}
-use Rattle.gathering.specs.Moments.{Moment, IsSoundAt, Dropping, Stood, moment_after}
-use Rattle.gathering.specs.Seen.{calls_of}
-use Rattle.gathering.specs.Listing.{AreFound}
+use Rattle.reader_laws.specs.Moments.{Moment, IsSoundAt, Dropping, Stood, moment_after}
+use Rattle.reader_laws.specs.Seen.{calls_of}
+use Rattle.reader_laws.specs.GatheringListing.{AreFound}
 use Rattle.plfs_types.specs.Places.{IsAmong}
-use Rattle.gathering.proofs.Facts.{all_at, among, any_found, scan_finds, seen, sound_after}
+use Rattle.reader_laws.proofs.Gathered.Facts.{all_at, among, any_found, scan_finds, seen, sound_after}
 use Rattle.reader_laws.specs.Sharing.{in_room}
 use Rattle.reader_laws.proofs.Facts.{HasTop, top_run}
 use Rattle.flatten_laws.proofs.Taken.{stood_stands}

@@ -2,10 +2,10 @@
 use Rattle.std.proofs.Common.{◌≡◌, ◌+◌, ℕ, suc, List, [], ◌∷◌, ◌++◌, refl, ap, sym, ◌∙◌, subst, arith}
 use Rattle.std.specs.Prelude.{◌≢◌}
 use Rattle.turn_object.specs.History.{state_after}
-use Rattle.story.specs.Program.{Program, done, ask, followed_by}
-use Rattle.story.specs.Safe.{AreOthers, IsSafe}
-use Rattle.story.proofs.Facts.{after_another, after_own}
-use Rattle.flow.specs.Running.{asking, unbroken, Runs}
+use Rattle.mount_model.specs.Program.{Program, done, ask, followed_by}
+use Rattle.mount_model.specs.Safe.{AreOthers, IsSafe}
+use Rattle.mount_model.proofs.Stories.Facts.{after_another, after_own}
+use Rattle.mount_model.specs.Running.{asking, unbroken, Runs}
 use Rattle.mount_model.specs.declared.call.Ask.{Ask}
 use Rattle.mount_model.specs.declared.call.Call.{Call}
 use Rattle.mount_model.specs.declared.call.Call.TheVariants.{Find, Look, SyncDropping}
@@ -16,7 +16,7 @@ use Rattle.mount_model.specs.Step.{IsStep}
 use Rattle.mount_sound.specs.Owed.{IsLawful, Permits}
 use Rattle.mount_sound.specs.Sound.{IsFine}
 use Rattle.index_reader.proofs.Facts.{IsLook, OnlyLooks}
-use Rattle.holding_laws.proofs.Facts.{LastsOne, lasts_all, may_free}
+use Rattle.recovery_laws.proofs.Holds.Facts.{LastsOne, lasts_all, may_free}
 
 -- ---- whoever makes them
 

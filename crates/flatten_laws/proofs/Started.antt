@@ -10,7 +10,7 @@ use Rattle.store_laws.specs.Files.{file_at}
 use Rattle.store_laws.specs.Tells.{made}
 use Rattle.store_laws.proofs.Facts.{acts_told, changed_room, create_told}
 use Rattle.flat_format.specs.Spelling.{flat_spelling}
-use Rattle.flow.specs.Running.{unbroken}
+use Rattle.mount_model.specs.Running.{unbroken}
 use Rattle.mount_model.specs.declared.call.Ask.{Ask}
 use Rattle.mount_model.specs.declared.call.Call.TheVariants.{PutFlat, StartFlat}
 use Rattle.mount_model.specs.declared.reply.Reply.{Reply}
@@ -32,7 +32,7 @@ use Rattle.mount_sound.specs.Owed.{InRoom, May, MayPut, Owes}
 use Rattle.mount_sound.specs.Sound.{IsSoundFor}
 use Rattle.mount_sound.proofs.Facts.{one_tree, put_flat_lasts, some_room, underway_of}
 use Rattle.index_reader.specs.Opening.{no_flat}
-use Rattle.holding_laws.proofs.Facts.{LastsOne}
+use Rattle.recovery_laws.proofs.Holds.Facts.{LastsOne}
 use Rattle.recovery_laws.proofs.Facts.{Cleanly, cleanly_then}
 
 -- the flattened index of nothing, which is right for each room

@@ -24,14 +24,14 @@ use Rattle.gather_flow.specs.OneIndex.{flat_of, gathered_of}
 use Rattle.index_reader.specs.declared.listing.Dropping.{Dropping as Listed}
 use Rattle.index_reader.specs.declared.listing.Listing.{Listing}
 use Rattle.index_reader.specs.Gathered.{IsGatheredOf, pieces_of_each}
-use Rattle.gathering.specs.Moments.{Moment, IsSoundAt, Dropping, Grows, Stood, issued_by, landed, landed_by, moment_after}
-use Rattle.gathering.specs.Seen.{Asked, asked_in, calls_of}
-use Rattle.gathering.specs.Gathering.{Gathered, GathersAll, IsPrefixOf}
+use Rattle.reader_laws.specs.Moments.{Moment, IsSoundAt, Dropping, Grows, Stood, issued_by, landed, landed_by, moment_after}
+use Rattle.reader_laws.specs.Seen.{Asked, asked_in, calls_of}
+use Rattle.reader_laws.specs.Gathering.{Gathered, GathersAll, IsPrefixOf}
 use Rattle.plfs_types.specs.Places.{IsAmong}
-use Rattle.gathering.specs.Flats.{pieces_of}
-use Rattle.gathering.specs.Opening.{IsOpening, HasView, ListsTruncs}
-use Rattle.gathering.specs.View.{covered_in, own_entries, writes_in, WritersRise}
-use Rattle.gathering.proofs.Facts.{grows_after, is_among, landed_at, landed_is_first, legal_first, legal_rest, length-entries, length_taken, entries_stay, moment-append, opened, opened_flat, prefix_of, sound_after, stands, stood_grows}
+use Rattle.reader_laws.specs.Flats.{pieces_of}
+use Rattle.reader_laws.specs.GatheringOpening.{IsOpening, HasView, ListsTruncs}
+use Rattle.reader_laws.specs.View.{covered_in, own_entries, writes_in, WritersRise}
+use Rattle.reader_laws.proofs.Gathered.Facts.{grows_after, is_among, landed_at, landed_is_first, legal_first, legal_rest, length-entries, length_taken, entries_stay, moment-append, opened, opened_flat, prefix_of, sound_after, stands, stood_grows}
 use Rattle.recovery_laws.proofs.Facts.{HasFirst}
 use Rattle.reader_laws.specs.Covering.{counts_in}
 use Rattle.reader_laws.specs.Listing.{HasListed, HasListedTruncs}

@@ -1,7 +1,7 @@
 //! The law of a flattening.
 ghost use Rattle.std.specs.Prelude.{ℕ, List};
-ghost use Rattle.story.specs.Safe.{IsSafe};
-ghost use Rattle.flow.specs.Running.{asking};
+ghost use Rattle.mount_model.specs.Safe.{IsSafe};
+ghost use Rattle.mount_model.specs.Running.{asking};
 ghost use Rattle.mount_model.specs.State.{State};
 ghost use Rattle.mount_model.specs.Step.{IsStep};
 ghost use Rattle.mount_sound.specs.Owed.{Permits};

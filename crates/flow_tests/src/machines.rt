@@ -1,12 +1,11 @@
 //! How a machine is driven.
 ghost use Rattle.std.specs.Prelude.{if◌then◌else◌};
 ghost use Rattle.mount_model.specs.declared.call.Call.TheVariants.{Greet as AsksToGreet};
-ghost use Rattle.story.specs.Program.{done, ask};
-ghost use Rattle.flow.specs.Standing.{ready};
+ghost use Rattle.mount_model.specs.Program.{done, ask};
+ghost use Rattle.mount_model.specs.Standing.{ready};
 
 use crate::cases::all_hold;
-use flow::Flow;
-use mount_model::{Call, Reply};
+use mount_model::{Call, Flow, Reply};
 use plfs_types::NoMemory;
 use writer_flow::{CloseFlow, OpenWrite, SyncFlow, WriteFlow};
 

@@ -1,6 +1,6 @@
 //! A reader's machines over sets of writes, against the newest write asked byte by byte.
 ghost use Rattle.std.specs.Prelude.{IfOk, IfSome, OnOk};
-ghost use Rattle.flow.specs.Standing.{IsFresh, IsOver, rest_of};
+ghost use Rattle.mount_model.specs.Standing.{IsFresh, IsOver, rest_of};
 ghost use Rattle.index_reader.specs.Covered as covered;
 ghost use Rattle.index_reader.specs.Hosts as hosted;
 ghost use Rattle.index_reader.specs.Listing as listed;
@@ -9,11 +9,11 @@ use crate::cases::ends;
 use crate::sets::{EDGES, SETS, read};
 use crate::worlds::{Set, newest, reply_to, size};
 use flat_format::Flat;
-use flow::Flow;
 use index_reader::{
     Dropping, DroppingList, Gathered, Listing, OpenReader, Reading, Share, ShareList, ShareRead,
     TruncRead, gather, join_shares,
 };
+use mount_model::Flow;
 use plain_file::{PieceList, Pieces};
 use plfs_types::{Bytes, CoverList, MAX_SIZE, NoMemory};
 use refresh_index::{Refresh, RefreshOut};

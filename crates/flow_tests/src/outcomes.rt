@@ -1,9 +1,9 @@
 //! How machines end, as text.
 use crate::spelling::{pair, trouble};
 use attr_flow::{Attr, AttrOut};
-use flow::Stuck;
 use index_reader::{Listing, Share};
 use migrate_core::Migrated;
+use mount_model::Stuck;
 use plain_file::ReaderParts;
 use plfs_types::{Bytes, TruncList};
 use refresh_index::RefreshOut;

@@ -1,12 +1,11 @@
 //! One machine is taken through the rows of a case, and what comes of it is told.
 ghost use Rattle.std.specs.Prelude.{IfOk, IsTrue};
-ghost use Rattle.flow.specs.Standing.{IsFresh, IsOver, rest_of};
+ghost use Rattle.mount_model.specs.Standing.{IsFresh, IsOver, rest_of};
 
 use crate::outcomes::Tell;
 use crate::replies::reply_of;
 use crate::spelling::{parts, spell};
-use flow::Flow;
-use mount_model::{Call, Reply};
+use mount_model::{Call, Flow, Reply};
 use plfs_types::NoMemory;
 use std::alloc::Global;
 use test_lines::Line;

@@ -1,6 +1,6 @@
 //! How machines of a reader are made.
 ghost use Rattle.std.specs.Prelude.{IfSome};
-ghost use Rattle.flow.specs.Standing.{IsFresh};
+ghost use Rattle.mount_model.specs.Standing.{IsFresh};
 ghost use Rattle.index_reader.specs.Covered as covered;
 ghost use Rattle.index_reader.specs.ReadingStages.{read_standing};
 ghost use Rattle.index_reader.specs.Stages.{share_standing};

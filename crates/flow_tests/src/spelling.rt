@@ -1,6 +1,5 @@
 //! Calls and troubles as text.
-use flow::Stuck;
-use mount_model::{Call, Look};
+use mount_model::{Call, Look, Stuck};
 use test_lines::Line;
 
 /// What stands before the first such sign and what stands behind it, or all of the text and nothing.

@@ -1,6 +1,6 @@
 //! The calls of a writer, and what comes of the replies to them.
 ghost use Rattle.std.specs.Prelude.{IfSome};
-ghost use Rattle.flow.specs.Standing.{IsFresh};
+ghost use Rattle.mount_model.specs.Standing.{IsFresh};
 ghost use Rattle.writer_flow.specs.WritingStages.{write_standing};
 
 use crate::cases::all_hold;

@@ -1,2 +1,3 @@
 mod SameFile
 mod Over
+mod UsedLast

@@ -34,7 +34,7 @@ module _ {K X : Type 0} where
   ]) refl
 
   -- another is found where the one that was found first is taken out
-  found_without : (test q : K → Bool) (es : List (K × X)) (first : K × X) → lookup_entry test es ≡ Some first → q first.0 ≡ false → lookup q (remove_entry test es) ≡ lookup q es
+  pub found_without : (test q : K → Bool) (es : List (K × X)) (first : K × X) → lookup_entry test es ≡ Some first → q first.0 ≡ false → lookup q (remove_entry test es) ≡ lookup q es
   found_without test q [] first is other = refl
   found_without test q (e ∷ es) first is other = (elim (test e.0) as (λ y. test e.0 ≡ y → lookup q (remove_entry test (e ∷ es)) ≡ lookup q (e ∷ es)) [
     | true ↦ λ t.
@@ -46,7 +46,7 @@ module _ {K X : Type 0} where
   ]) refl
 
   -- the entry that is found passes the test
-  first_passes : (test : K → Bool) (es : List (K × X)) (first : K × X) → lookup_entry test es ≡ Some first → test first.0 ≡ true
+  pub first_passes : (test : K → Bool) (es : List (K × X)) (first : K × X) → lookup_entry test es ≡ Some first → test first.0 ≡ true
   first_passes test [] first is = cc
   first_passes test (e ∷ es) first is = (elim (test e.0) as (λ y. test e.0 ≡ y → test first.0 ≡ true) [
     | true ↦ λ t. let is' = rw t at is in let same : e ≡ first = cc in subst (λ (f : K × X). test f.0 ≡ true) same t
@@ -57,7 +57,7 @@ module _ {K X : Type 0} where
 turned : (a b : FileKey) → same_file a b ≡ true → same_file b a ≡ true
 turned a b same = sym (same_file_equiv.congr a b a same) ∙ same_file_equiv.refl a
 
-through : (a b c : FileKey) → same_file a b ≡ true → same_file c b ≡ true → same_file a c ≡ true
+pub through : (a b c : FileKey) → same_file a b ≡ true → same_file c b ≡ true → same_file a c ≡ true
 through a b c same also = same_file_equiv.congr a b c same ∙ turned c b also
 
 module _ {X : Type 0} (cache : LruCache FileKey X) (key : FileKey) (held : X) (other : FileKey) (one : X) where

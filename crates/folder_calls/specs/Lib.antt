@@ -1,3 +1,4 @@
+pub mod Acted
 pub mod Doubts
 pub mod Calls
 pub mod Syncs

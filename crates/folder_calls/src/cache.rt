@@ -1,18 +1,24 @@
 //! The files that are open: those that were used last, each with its length.
-ghost use Rattle.std.specs.Prelude.{◌≡◌, ◌⊎◌, [], length, max, true, None, Some, IfOk, IfErr, if◌then◌else◌};
+ghost use Rattle.std.specs.Prelude.{◌≡◌, ◌⊎◌, [], length, max, true, None, Some, is_some, IfSome, IfOk, IfErr, if◌then◌else◌};
 ghost use Rattle.std.specs.List.{IsDistinct};
 ghost use Rattle.std.specs.Map.{keys_of, remove_entry};
 ghost use Rattle.lru.specs.LruCache.{lru_cache, put_entries};
+ghost use Rattle.store_api.specs.Step.{step_of};
+ghost use Rattle.folder_calls.specs.Acted.{ActsHeld};
 ghost use Rattle.folder_calls.specs.Keys.{same_file};
 ghost use Rattle.folder_calls.specs.Opened.{held_at};
+ghost use Rattle.folder_calls.specs.Own.{is_own};
 
+use crate::calls::Calls;
 use crate::failure::Failure;
 use crate::held::Held;
+use crate::own::OwnFiles;
 use lru::LruCache;
 use plfs_types::Name;
 use std::alloc::Global;
 use std::hash::{Hash, Hasher};
 use std::num::NonZeroUsize;
+use store_api::{Answer, Step};
 
 /// A file by the number of its room, its folder, which is empty at the top, and its name.
 /// A room's number stays as it is renamed, and so does the key.
@@ -50,13 +56,13 @@ impl Hash for FileKey {
     ghost use Rattle.std.specs.Cmp.Rules.{hashing};
     ghost use Rattle.std.specs.Hash as fed;
 
-    ghost hash_input = { λ key. fed.u64 key.room ++ fed.slice fed.u8 key.folder ++ fed.slice fed.u8 key.file };
+    // Files of one name in several folders of a room are rare: a dropping's name has its writer's id.
+    ghost hash_input = { λ key. fed.u64 key.room ++ fed.slice fed.u8 key.file };
 
     ghost respects_eq = { Prim.search (hashing, rules) };
 
     fn hash<H: Hasher>(&self, state: &mut H) {
         self.room.hash(state);
-        self.folder.bytes().hash(state);
         self.file.bytes().hash(state);
     }
 }
@@ -110,6 +116,35 @@ impl<F: Drop> OpenFiles<F> {
         match self.files.put(key, held) {
             Ok(_) => {}
             Err(_) => {}
+        }
+    }
+
+    /// Makes a step on the file, where it is open. It is then the one that was used last. After a failure it is closed, so
+    /// that its length is asked again. Where it has no bytes yet it is this run's own. None where it isn't open.
+    pub fn act<C: Calls<File = F>>(
+        &mut self,
+        own: &mut OwnFiles,
+        calls: &mut C,
+        alloc: Global,
+        key: &FileKey,
+        step: &Step<'_>,
+    ) -> Option<Result<Answer, Failure>>
+        ensures open { is_some result ≡ is_some (held_at self.old key.now) }
+        ensures untouched { result ≡ None → (self.new ≡ self.old) × (calls.new ≡ calls.old) × (own.new ≡ own.old) }
+        ensures acts { IfSome result (ActsHeld self.old self.new key.now (C.log calls.old) (C.log calls.new) (step_of step.now)) }
+        ensures only { (other : FileKey) → is_own own.new other ≡ true → (is_own own.old other ≡ true) ⊎ ((same_file key.now other ≡ true) × IfSome (held_at self.old key.now) (λ held. held.len ≡ 0)) }
+        ensures lasts { (other : FileKey) → is_own own.old other ≡ true → is_own own.new other ≡ true }
+    {
+        let Some(held) = self.files.get_mut(key) else {
+            return None;
+        };
+        own.add_if_empty(key, held);
+        match held.act(calls, alloc, step) {
+            Ok(answer) => Some(Ok(answer)),
+            Err(failure) => {
+                drop(self.take(key));
+                Some(Err(failure))
+            }
         }
     }
 }

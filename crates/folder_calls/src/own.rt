@@ -4,6 +4,7 @@ ghost use Rattle.folder_calls.specs.Keys.{same_file};
 ghost use Rattle.folder_calls.specs.Own.{is_own};
 
 use crate::cache::FileKey;
+use crate::held::Held;
 use std::alloc::Global;
 use std::collections::HashSet;
 
@@ -38,6 +39,16 @@ impl OwnFiles {
         match self.keys.insert(key) {
             Ok(_) => {}
             Err(_) => {}
+        }
+    }
+
+    /// Adds the file where it has no bytes yet.
+    pub fn add_if_empty<F: Drop>(&mut self, key: &FileKey, held: &Held<F>)
+        ensures only { (other : FileKey) → is_own self.new other ≡ true → (is_own self.old other ≡ true) ⊎ ((same_file key.now other ≡ true) × (held.now.len ≡ 0)) }
+        ensures lasts { (other : FileKey) → is_own self.old other ≡ true → is_own self.new other ≡ true }
+    {
+        if held.is_empty() {
+            self.add(*key);
         }
     }
 

@@ -1,8 +1,8 @@
 -- The machines of a gathering, one after the other.
 use Rattle.std.proofs.Common.{◌≡◌, ◌≤◌, ◌<◌, ℕ, ◌+◌, ◌-◌, ◌*◌, ◌^◌, arith, List, Some, None, Result, sym, ap, ◌∙◌}
-use Rattle.flow.specs.declared.stuck.Stuck.{Stuck}
-use Rattle.flow.specs.Standing.{next_of, rest_of}
-use Rattle.flow.specs.Replies.{on_ok}
+use Rattle.mount_model.specs.declared.stuck.Stuck.{Stuck}
+use Rattle.mount_model.specs.Standing.{next_of, rest_of}
+use Rattle.mount_model.specs.FlowReplies.{on_ok}
 use Rattle.mount_model.specs.declared.call.Call.{Call}
 use Rattle.mount_model.specs.Step.{OwedBy}
 use Rattle.index_reader.specs.declared.listing.Listing.{Listing}
@@ -18,7 +18,7 @@ use Rattle.gather_flow.specs.declared.gathering.Tried.TheVariants as tried
 use Rattle.gather_flow.specs.declared.gathering.Called.TheVariants as called
 use Rattle.gather_flow.specs.Gathering.{if_truncs_listed, after_share, gather_standing, gather_left, share_bound, shares_bound}
 use Rattle.gather_flow.specs.Called.{IsTried, IsCalled}
-use Rattle.flow.proofs.Composing.{asks_then, through, same_then}
+use Rattle.mount_model.proofs.Flows.Composing.{asks_then, through, same_then}
 use Rattle.gather_flow.proofs.Throughs.{rests_then}
 
 -- ---- the machine at work

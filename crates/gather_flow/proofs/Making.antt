@@ -1,9 +1,9 @@
 -- What is made of all that was read of a container may be made at once, where its truncates are listed.
 use Rattle.std.proofs.Common.{◌≡◌, List, [], ◌∷◌, ◌++◌, Result, Ok, Err, refl, ◌∙◌}
 use Rattle.plfs_types.specs.declared.entries.Trunc.{Trunc}
-use Rattle.story.specs.Program.{Program, done, ask, followed_by}
-use Rattle.flow.specs.declared.stuck.Stuck.{Stuck}
-use Rattle.flow.specs.Replies.{Tries, on_ok}
+use Rattle.mount_model.specs.Program.{Program, done, ask, followed_by}
+use Rattle.mount_model.specs.declared.stuck.Stuck.{Stuck}
+use Rattle.mount_model.specs.FlowReplies.{Tries, on_ok}
 use Rattle.mount_model.specs.declared.call.Call.{Call}
 use Rattle.mount_model.specs.declared.reply.Reply.{Reply}
 use Rattle.index_reader.specs.declared.listing.Listing.{Listing}

@@ -16,10 +16,10 @@ use Rattle.index_reader.specs.declared.sharing.Share.{Share}
 use Rattle.index_reader.specs.declared.sharing.ShareRead.{ShareRead}
 use Rattle.index_reader.specs.Stages.{share_standing}
 use Rattle.std.specs.Prelude.{Result}
-use Rattle.flow.specs.declared.stuck.Stuck.{Stuck}
-use Rattle.flow.specs.Standing.{Standing, ready}
-use Rattle.flow.specs.Composed.{then_on}
-use Rattle.flow.specs.Replies.{on_ok}
+use Rattle.mount_model.specs.declared.stuck.Stuck.{Stuck}
+use Rattle.mount_model.specs.Standing.{Standing, ready}
+use Rattle.mount_model.specs.Composed.{then_on}
+use Rattle.mount_model.specs.FlowReplies.{on_ok}
 use Rattle.mount_model.specs.declared.call.Call.{Call}
 use Rattle.mount_model.specs.declared.reply.Reply.{Reply}
 use Rattle.index_reader.specs.Truncs.{trunc_program}

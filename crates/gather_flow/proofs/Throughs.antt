@@ -1,10 +1,10 @@
 -- The call of the machine at work is the gathering's.
 use Rattle.std.proofs.Common.{◌≡◌, Some, refl, sym, ap}
 use Rattle.std.proofs.lemmas.Option.{none-some}
-use Rattle.story.specs.Program.{done, ask}
-use Rattle.flow.specs.Standing.{Standing, ready, asked, Rest, over, awaits, next_of, rest_of, replied, Awaits}
-use Rattle.flow.specs.Composed.{then_on}
-use Rattle.flow.specs.Replies.{Tries}
+use Rattle.mount_model.specs.Program.{done, ask}
+use Rattle.mount_model.specs.Standing.{Standing, ready, asked, Rest, over, awaits, next_of, rest_of, replied, Awaits}
+use Rattle.mount_model.specs.Composed.{then_on}
+use Rattle.mount_model.specs.FlowReplies.{Tries}
 use Rattle.mount_model.specs.declared.call.Call.{Call}
 use Rattle.mount_model.specs.declared.reply.Reply.{Reply}
 use Rattle.gather_flow.specs.Gathering.{call_then}

@@ -1,7 +1,7 @@
 -- What is said to whether a gathering has a further call.
 use Rattle.std.specs.Prelude.{◌≡◌, ◌≤◌, Some}
-use Rattle.story.specs.Program.{done}
-use Rattle.flow.specs.Standing.{ready, next_of, rest_of}
+use Rattle.mount_model.specs.Program.{done}
+use Rattle.mount_model.specs.Standing.{ready, next_of, rest_of}
 use Rattle.mount_model.specs.Step.{OwedBy}
 use Rattle.gather_flow.specs.declared.gathering.Gathering.{Gathering}
 use Rattle.gather_flow.specs.declared.gathering.Tried.{Tried}

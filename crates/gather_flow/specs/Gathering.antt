@@ -1,12 +1,12 @@
 -- Where the shares and the truncates of a container that is gathered stand.
 use Rattle.std.specs.Prelude.{ℕ, ◌+◌, ◌-◌, ◌*◌, ◌^◌, List, [], ◌∷◌, ◌++◌, Result, Ok, Err}
 use Rattle.plfs_types.specs.declared.entries.Trunc.{Trunc}
-use Rattle.story.specs.Program.{done, followed_by}
-use Rattle.flow.specs.declared.stuck.Stuck.{Stuck}
-use Rattle.flow.specs.declared.stuck.Stuck.TheVariants.{Fault}
-use Rattle.flow.specs.Standing.{Standing, ready, Rest, over, awaits, rest_of, IsOver, Awaits}
-use Rattle.flow.specs.Composed.{then_on}
-use Rattle.flow.specs.Replies.{Tries, on_ok}
+use Rattle.mount_model.specs.Program.{done, followed_by}
+use Rattle.mount_model.specs.declared.stuck.Stuck.{Stuck}
+use Rattle.mount_model.specs.declared.stuck.Stuck.TheVariants.{Fault}
+use Rattle.mount_model.specs.Standing.{Standing, ready, Rest, over, awaits, rest_of, IsOver, Awaits}
+use Rattle.mount_model.specs.Composed.{then_on}
+use Rattle.mount_model.specs.FlowReplies.{Tries, on_ok}
 use Rattle.mount_model.specs.declared.call.Call.{Call}
 use Rattle.mount_model.specs.declared.reply.Reply.{Reply}
 use Rattle.index_reader.specs.declared.listing.Listing.{Listing}

@@ -6,7 +6,7 @@ use Rattle.plain_file.specs.Size.{size_from}
 use Rattle.plain_file.specs.Sources.{kept_source}
 use Rattle.interval_merge.specs.Lists.{newest_source}
 use Rattle.flat_format.specs.declared.flat.Flat.{Flat}
-use Rattle.flow.specs.declared.stuck.Stuck.{Stuck}
+use Rattle.mount_model.specs.declared.stuck.Stuck.{Stuck}
 use Rattle.attr_flow.specs.declared.attr.Attr.{Attr}
 use Rattle.attr_flow.specs.Attributes.{gathered as told_by}
 use Rattle.index_reader.specs.declared.listing.Listing.{Listing}

@@ -1,8 +1,8 @@
 -- The shares of a container's droppings, one a worker.
 use Rattle.std.specs.Prelude.{ℕ, ◌-◌, List, [], ◌∷◌, ◌++◌, map}
 use Rattle.std.specs.List.{range_with_len}
-use Rattle.flow.specs.Replies.{Tries, on_ok}
-use Rattle.story.specs.Program.{followed_by}
+use Rattle.mount_model.specs.FlowReplies.{Tries, on_ok}
+use Rattle.mount_model.specs.Program.{followed_by}
 use Rattle.index_reader.specs.declared.listing.Listing.{Listing}
 use Rattle.index_reader.specs.declared.sharing.Share.{Share}
 use Rattle.index_reader.specs.Sharing.{share_program}

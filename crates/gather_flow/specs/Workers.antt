@@ -1,10 +1,10 @@
 -- What workers that read the shares of a container are given, and what comes of them.
 use Rattle.std.specs.Prelude.{◌≡◌, ⊤, List, [], ◌∷◌, Result, Ok, Err}
-use Rattle.story.specs.Program.{Program}
-use Rattle.flow.specs.declared.stuck.Stuck.{Stuck}
-use Rattle.flow.specs.Running.{asking}
-use Rattle.flow.specs.Standing.{ready}
-use Rattle.flow.specs.Replies.{Tries}
+use Rattle.mount_model.specs.Program.{Program}
+use Rattle.mount_model.specs.declared.stuck.Stuck.{Stuck}
+use Rattle.mount_model.specs.Running.{asking}
+use Rattle.mount_model.specs.Standing.{ready}
+use Rattle.mount_model.specs.FlowReplies.{Tries}
 use Rattle.mount_model.specs.declared.call.Ask.{Ask}
 use Rattle.mount_model.specs.declared.reply.Reply.{Reply}
 use Rattle.index_reader.specs.declared.sharing.Share.{Share}

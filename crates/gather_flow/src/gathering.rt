@@ -1,15 +1,14 @@
 //! The shares and the truncates of a container that is gathered.
 ghost use Rattle.std.specs.Prelude.{◌≡◌, ◌<◌, ◌≤◌, ◌+◌, ◌-◌, [], ◌∷◌, IfOk};
-ghost use Rattle.flow.specs.Standing.{ready, replied, Awaits};
+ghost use Rattle.mount_model.specs.Standing.{ready, replied, Awaits};
 ghost use Rattle.gather_flow.specs.Gathering.{shares_from, reads_truncs, shares_bound, gather_standing, gather_rest, gather_left, machines_left, IsThrough};
 ghost use Rattle.gather_flow.specs.Called.{IsTried, IsCalled};
 
 use crate::all_read::AllRead;
 use crate::listed::Listed;
 use crate::work_list::share_read;
-use flow::{Flow, Stuck};
 use index_reader::{Share, ShareList, ShareRead, TruncRead};
-use mount_model::{Call, Reply};
+use mount_model::{Call, Flow, Reply, Stuck};
 use plfs_types::NoMemory;
 use std::alloc::Global;
 

@@ -1,6 +1,6 @@
 //! Machines for the workers that read a container's shares.
 ghost use Rattle.std.specs.Prelude.{◌≡◌, ◌<◌, ◌≤◌, map, IfOk};
-ghost use Rattle.flow.specs.Standing.{ready};
+ghost use Rattle.mount_model.specs.Standing.{ready};
 ghost use Rattle.index_reader.specs.Stages.{share_standing, share_left};
 ghost use Rattle.gather_flow.specs.Shares.{worker_program, programs_from};
 ghost use Rattle.gather_flow.specs.Gathering.{share_bound};

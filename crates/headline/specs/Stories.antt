@@ -12,18 +12,25 @@ use Rattle.headline.specs.Left.{HasLeft, IsLeft, StaysOpen}
 use Rattle.headline.specs.Opened.{HasOpened}
 use Rattle.headline.specs.Contents.{HasContents}
 use Rattle.headline.specs.Refusals.{HasRefusals}
+use Rattle.headline.specs.Reasons.{HasReasons}
+use Rattle.headline.specs.Missing.{HasMissing}
 use Rattle.headline.specs.Readers.{HasNames, HasOld, HasReaders}
 use Rattle.headline.specs.Stats.{HasStats}
 use Rattle.headline.specs.Truncated.{HasTruncated}
+use Rattle.headline.specs.Truncs.{HasTruncs}
+use Rattle.headline.specs.Indices.{HasIndices}
 use Rattle.headline.specs.Flattened.{HasFlattened}
 use Rattle.headline.specs.Listed.{HasListed}
+use Rattle.headline.specs.Losses.{SurvivesLosses}
+use Rattle.headline.specs.Recovered.{HasRecovered}
 
 -- The containers that it says have the names by which the lines speak of them, and the files of the writers that lines opened. Their readers see what was told
 -- before, and what the tree before had: each one plain file, of the first writes that the lines tell of each writer. What is told of a file is that of
--- such a plain file. Refusals of a reader's statements have their causes. The tree after has the first writes of each writer, as many as the lines allow,
+-- such a plain file. Refusals of a reader's statements have their causes, and others have a reason of their statement. The tree after has the first writes of each writer, as many as the lines allow,
 -- and all of its bytes. A writer that was closed has left, with metadata of all that it wrote. One that its actor has at the end is open there still.
--- A truncate cuts all that had landed, and nothing that is written after it.
--- What was flattened stands. No name is missing of those that are listed.
+-- A truncate cuts all that had landed, and nothing that is written after it. Each that a line shows, or that stands after, is of the tree before or of a line. So is each index.
+-- What was flattened stands. No name is missing of those that are listed. Who was taken out by a recovery is open no more. What a sync told survives each
+-- loss of power after the run.
 pub record Fits (run : Run) (story : Story) : Type 0 where
   pub names : HasNames run story
   pub opened : HasOpened run story
@@ -32,9 +39,15 @@ pub record Fits (run : Run) (story : Story) : Type 0 where
   pub contents : HasContents run story
   pub stats : HasStats run story
   pub truncated : HasTruncated run story
+  pub truncs : HasTruncs run story
+  pub indices : HasIndices run story
   pub flattened : HasFlattened run story
   pub listed : HasListed run
+  pub recovered : HasRecovered run story
   pub refusals : HasRefusals run
+  pub reasons : HasReasons run
+  pub missing : HasMissing run
   pub left : (n : ℕ) (w : Writer) → IsWriter run story n (told run) (told run) w → IsLeft run n w
   pub closed : (t : Told) (count n : ℕ) (w : Writer) → Says run t (Closed count) → writer_at run t ≡ Some w.id → IsWriter run story n (told run) (told run) w → HasLeft run n w
   pub kept : (t : Told) (n : ℕ) (w : Writer) → IsLine run t → StaysOpen run t w.id → IsWriter run story n (told run) (told run) w → Has run.after n (OpenHost w.host w.id)
+  pub losses : SurvivesLosses run story

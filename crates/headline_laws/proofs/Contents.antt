@@ -3,6 +3,7 @@ pub mod Above
 pub mod Accounts
 pub mod Amounts
 pub mod Answered
+pub mod AtLine
 pub mod Bounds
 pub mod Counted
 pub mod Cuts
@@ -11,6 +12,7 @@ pub mod FirstOpen
 pub mod Issues
 pub mod Least
 pub mod LineBounds
+pub mod OpenUntil
 pub mod OpenedWriter
 pub mod Shares
 pub mod Stats

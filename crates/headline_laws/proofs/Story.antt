@@ -9,5 +9,6 @@ pub mod OneOpener
 pub mod Opened
 pub mod Ordered
 pub mod Parts
+pub mod Quiet
 pub mod Refused
 pub mod Shown

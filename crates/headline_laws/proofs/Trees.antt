@@ -9,9 +9,11 @@ pub mod Left
 pub mod Listed
 pub mod Marked
 pub mod Old
+pub mod OpenListed
 pub mod Openings
 pub mod Printed
 pub mod Reading
+pub mod Recovered
 pub mod Sights
 pub mod Still
 pub mod Truncated

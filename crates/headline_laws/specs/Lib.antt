@@ -1,0 +1,16 @@
+pub mod Changing
+pub mod Comparing
+pub mod Counting
+pub mod Ending
+pub mod Flattening
+pub mod OneFile
+pub mod OneWriter
+pub mod Opening
+pub mod Readers
+pub mod Recovering
+pub mod Refreshing
+pub mod Refusing
+pub mod Showing
+pub mod Telling
+pub mod Undamaged
+pub mod Writing

@@ -1,6 +1,6 @@
 -- The first item of a list with which a rule of lists is broken.
 use Rattle.std.specs.Prelude.{ℕ, ◌+◌, Bool, if◌then◌else◌, List, length, take, Option, Some, None, Result, Err}
-use Rattle.flow.specs.Names.{find_below}
+use Rattle.mount_model.specs.Names.{find_below}
 
 -- the place of the first item that may not stand behind those before it
 abbrev pub first_break : {A : Type 0} → (List A → Bool) → List A → Option ℕ

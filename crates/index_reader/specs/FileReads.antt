@@ -2,8 +2,8 @@
 use Rattle.std.specs.Prelude.{ℕ, zero, suc, ◌+◌, ◌-◌, ◌/◌, nat_le, min, if◌then◌else◌, List, ◌++◌, length, Ok}
 use Rattle.plfs_types.specs.declared.limits.TheConstants.{MAX_PIECE}
 use Rattle.plfs_types.specs.declared.names.Path.{Path}
-use Rattle.flow.specs.Replies.{Tries, given, bytes_in, trouble}
-use Rattle.story.specs.Program.{done, ask}
+use Rattle.mount_model.specs.FlowReplies.{Tries, given, bytes_in, trouble}
+use Rattle.mount_model.specs.Program.{done, ask}
 use Rattle.mount_model.specs.declared.call.Call.TheVariants.{Look}
 use Rattle.mount_model.specs.declared.call.Look.TheVariants.{Read}
 

@@ -1,7 +1,7 @@
 -- Where the reading of a file stands in its program.
 use Rattle.std.specs.Prelude.{ℕ, List}
-use Rattle.flow.specs.Replies.{Tries}
-use Rattle.story.specs.Program.{done}
+use Rattle.mount_model.specs.FlowReplies.{Tries}
+use Rattle.mount_model.specs.Program.{done}
 use Rattle.index_reader.specs.declared.parts.FileRead.{FileRead}
 use Rattle.index_reader.specs.declared.bytes.AfterPart.{AfterPart}
 use Rattle.index_reader.specs.declared.bytes.AfterPart.TheVariants.{GoesOn, Is}

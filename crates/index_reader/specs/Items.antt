@@ -4,7 +4,7 @@ use Rattle.plfs_types.specs.declared.names.Path.{Path}
 use Rattle.container_layout.specs.declared.items.Item.{Item}
 use Rattle.container_layout.specs.declared.items.Item.TheVariants as item
 use Rattle.container_layout.specs.Paths.{path_of}
-use Rattle.flow.specs.Names.{or_else, find_below}
+use Rattle.mount_model.specs.Names.{or_else, find_below}
 use Rattle.index_reader.specs.Searching.{same_bytes}
 
 abbrev pub same_path : Path → Path → Bool

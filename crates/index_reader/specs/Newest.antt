@@ -3,8 +3,8 @@ use Rattle.std.specs.Prelude.{ℕ, max, List, [], ◌∷◌, Option, Some, None,
 use Rattle.plfs_types.specs.declared.names.Path.{Path}
 use Rattle.container_layout.specs.declared.items.Item.{Item}
 use Rattle.container_layout.specs.declared.items.Item.TheVariants as item
-use Rattle.flow.specs.declared.stuck.Stuck.{Stuck}
-use Rattle.flow.specs.Replies.{damage}
+use Rattle.mount_model.specs.declared.stuck.Stuck.{Stuck}
+use Rattle.mount_model.specs.FlowReplies.{damage}
 use Rattle.mount_model.specs.Paths.{Name, flats}
 use Rattle.index_reader.specs.Items.{flat_item}
 

@@ -1,10 +1,10 @@
 -- Where the listing of a container stands in its program.
 use Rattle.std.specs.Prelude.{◌≡◌, ℕ, ◌+◌, ◌^◌, List, ◌∷◌, length, Result, Ok, Err}
 use Rattle.flat_format.specs.declared.flat.Flat.{Flat}
-use Rattle.flow.specs.declared.stuck.Stuck.{Stuck}
-use Rattle.story.specs.Program.{done, followed_by}
-use Rattle.flow.specs.Standing.{Awaits, Standing, ready, rest_of}
-use Rattle.flow.specs.Replies.{Tries, on_ok}
+use Rattle.mount_model.specs.declared.stuck.Stuck.{Stuck}
+use Rattle.mount_model.specs.Program.{done, followed_by}
+use Rattle.mount_model.specs.Standing.{Awaits, Standing, ready, rest_of}
+use Rattle.mount_model.specs.FlowReplies.{Tries, on_ok}
 use Rattle.mount_model.specs.declared.call.Call.{Call}
 use Rattle.mount_model.specs.declared.reply.Reply.{Reply}
 use Rattle.index_reader.specs.declared.flats.FlatRead.{FlatRead}

@@ -5,10 +5,10 @@ use Rattle.plfs_types.specs.declared.entries.Cover.{Cover}
 use Rattle.container_layout.specs.Paths.{hostdir_of}
 use Rattle.flat_format.specs.declared.flat.Flat.{Flat}
 use Rattle.flat_format.specs.declared.flat.TheConstants.{HEAD_SIZE, COVER_SIZE}
-use Rattle.flow.specs.declared.stuck.Stuck.{Stuck}
-use Rattle.flow.specs.Replies.{Tries, given, on_ok, room_in, names_in, damage, trouble, bytes_in}
-use Rattle.flow.specs.Listed.{file_in}
-use Rattle.story.specs.Program.{done, ask, followed_by}
+use Rattle.mount_model.specs.declared.stuck.Stuck.{Stuck}
+use Rattle.mount_model.specs.FlowReplies.{Tries, given, on_ok, room_in, names_in, damage, trouble, bytes_in}
+use Rattle.mount_model.specs.FlowListed.{file_in}
+use Rattle.mount_model.specs.Program.{done, ask, followed_by}
 use Rattle.mount_model.specs.declared.call.Call.TheVariants.{Find, Look}
 use Rattle.mount_model.specs.declared.call.Look.TheVariants.{List as ListFolder, Length, Read, Top}
 use Rattle.mount_model.specs.Paths.{Name, flats, flat_path}

@@ -2,8 +2,8 @@
 use Rattle.std.specs.Prelude.{ℕ, ◌≤◌, List, Ok, Err}
 use Rattle.plfs_types.specs.declared.entries.Cover.{Cover}
 use Rattle.plfs_types.specs.declared.names.Path.{Path}
-use Rattle.flow.specs.Replies.{Tries, damage}
-use Rattle.story.specs.Program.{done}
+use Rattle.mount_model.specs.FlowReplies.{Tries, damage}
+use Rattle.mount_model.specs.Program.{done}
 use Rattle.index_reader.specs.declared.entries.Tail.{Tail}
 use Rattle.index_reader.specs.declared.packed.Headed.{Headed}
 use Rattle.index_reader.specs.declared.packed.Headed.TheVariants.{Fault, Covered, More}

@@ -11,9 +11,9 @@ use Rattle.index_entry.specs.Spelling.{number_in}
 use Rattle.index_pack.specs.declared.runs.Run.{Run}
 use Rattle.index_pack.specs.declared.trouble.TheConstants.{HEAD_SIZE, RUN_SIZE}
 use Rattle.index_pack.specs.Reading.{runs_in}
-use Rattle.flow.specs.declared.stuck.Stuck.{Stuck}
-use Rattle.flow.specs.Replies.{Tries, given, on_ok, bytes_in, damage, trouble}
-use Rattle.story.specs.Program.{done, ask, followed_by}
+use Rattle.mount_model.specs.declared.stuck.Stuck.{Stuck}
+use Rattle.mount_model.specs.FlowReplies.{Tries, given, on_ok, bytes_in, damage, trouble}
+use Rattle.mount_model.specs.Program.{done, ask, followed_by}
 use Rattle.mount_model.specs.declared.call.Call.TheVariants.{Look}
 use Rattle.mount_model.specs.declared.call.Look.TheVariants.{Length, Read}
 use Rattle.index_reader.specs.declared.entries.Tail.{Tail}

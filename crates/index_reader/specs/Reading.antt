@@ -1,7 +1,7 @@
 -- The calls of a read of a file's bytes: one Read for each part that is in a log.
 use Rattle.std.specs.Prelude.{ℕ, ◌+◌, ◌-◌, ◌^◌, nat_lt, min, if◌then◌else◌, List, [], ◌∷◌, ◌++◌, length, take, map, replicate, Ok, Err}
-use Rattle.flow.specs.Replies.{Tries, given, bytes_in, damage, trouble}
-use Rattle.story.specs.Program.{done, ask}
+use Rattle.mount_model.specs.FlowReplies.{Tries, given, bytes_in, damage, trouble}
+use Rattle.mount_model.specs.Program.{done, ask}
 use Rattle.mount_model.specs.declared.call.Call.TheVariants.{Look}
 use Rattle.mount_model.specs.declared.call.Look.TheVariants.{Read}
 use Rattle.mount_model.specs.Paths.{log_path}

@@ -3,9 +3,9 @@ use Rattle.std.specs.Prelude.{ℕ, nat_lt, Bool, if◌then◌else◌, is_some, L
 use Rattle.plfs_types.specs.declared.names.Path.{Path}
 use Rattle.container_layout.specs.declared.items.Item.{Item}
 use Rattle.container_layout.specs.declared.items.Item.TheVariants as item
-use Rattle.flow.specs.declared.stuck.Stuck.{Stuck}
-use Rattle.flow.specs.Listed.{file_in}
-use Rattle.flow.specs.Replies.{damage}
+use Rattle.mount_model.specs.declared.stuck.Stuck.{Stuck}
+use Rattle.mount_model.specs.FlowListed.{file_in}
+use Rattle.mount_model.specs.FlowReplies.{damage}
 use Rattle.mount_model.specs.Paths.{Name}
 use Rattle.index_reader.specs.declared.owners.Owner.{Owner}
 use Rattle.index_reader.specs.declared.scanning.Scan.{Scan}

@@ -1,8 +1,8 @@
 -- The calls that read a share of a container's index droppings, one after the other.
 use Rattle.std.specs.Prelude.{ℕ, ◌==◌, if◌then◌else◌, List, [], ◌∷◌, ◌++◌, Ok}
 use Rattle.plfs_types.specs.declared.entries.Cover.{Cover}
-use Rattle.flow.specs.Replies.{Tries, on_ok}
-use Rattle.story.specs.Program.{done, followed_by}
+use Rattle.mount_model.specs.FlowReplies.{Tries, on_ok}
+use Rattle.mount_model.specs.Program.{done, followed_by}
 use Rattle.index_reader.specs.declared.listing.Dropping.{Dropping}
 use Rattle.index_reader.specs.declared.entries.Tail.{Tail}
 use Rattle.index_reader.specs.declared.sharing.Share.{Share}

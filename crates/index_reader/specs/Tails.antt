@@ -2,8 +2,8 @@
 -- Reads of the whole entries.
 use Rattle.std.specs.Prelude.{ℕ, zero, suc, ◌-◌, ◌*◌, ◌/◌, nat_le, nat_lt, min, Bool, true, false, if◌then◌else◌, List, length, Ok, Err}
 use Rattle.plfs_types.specs.declared.limits.TheConstants.{ENTRY_SIZE}
-use Rattle.flow.specs.Replies.{Tries, given, bytes_in, damage, trouble}
-use Rattle.story.specs.Program.{done, ask}
+use Rattle.mount_model.specs.FlowReplies.{Tries, given, bytes_in, damage, trouble}
+use Rattle.mount_model.specs.Program.{done, ask}
 use Rattle.mount_model.specs.declared.call.Call.TheVariants.{Look}
 use Rattle.mount_model.specs.declared.call.Look.TheVariants.{Length, Read}
 use Rattle.mount_model.specs.Paths.{index_path, log_path}
@@ -13,7 +13,7 @@ use Rattle.index_reader.specs.declared.entries.Went.{Went}
 use Rattle.index_reader.specs.declared.entries.Went.TheVariants.{On, Ends, Breaks}
 use Rattle.index_reader.specs.Replies.{number_in, log_length_in}
 use Rattle.index_reader.specs.Entries.{checked}
-use Rattle.flow.specs.Entries.{reads_of, next_read}
+use Rattle.mount_model.specs.Entries.{reads_of, next_read}
 
 -- the entries of the bytes that a Read of so many entries gave
 abbrev pub check : ℕ → ℕ → List ℕ → Tail → Went × Tail

@@ -2,9 +2,9 @@
 use Rattle.std.specs.Prelude.{ℕ, if◌then◌else◌, List, [], ◌∷◌, map, Option, Some, None, Result, Ok, Err, codes}
 use Rattle.plfs_types.specs.declared.names.Path.{Path}
 use Rattle.container_layout.specs.Paths.{hostdir_of}
-use Rattle.flow.specs.declared.stuck.Stuck.{Stuck}
-use Rattle.flow.specs.Replies.{damage}
-use Rattle.flow.specs.Listed.{file_in}
+use Rattle.mount_model.specs.declared.stuck.Stuck.{Stuck}
+use Rattle.mount_model.specs.FlowReplies.{damage}
+use Rattle.mount_model.specs.FlowListed.{file_in}
 use Rattle.mount_model.specs.Paths.{Name, metadata, truncs, flats}
 use Rattle.container_layout.specs.Paths.{openhosts}
 use Rattle.index_reader.specs.Searching.{has_name}

@@ -1,10 +1,10 @@
 -- Where the listing of truncates stands in its program.
 use Rattle.std.specs.Prelude.{ℕ, List, Result}
 use Rattle.plfs_types.specs.declared.entries.Trunc.{Trunc}
-use Rattle.flow.specs.declared.stuck.Stuck.{Stuck}
-use Rattle.story.specs.Program.{done}
-use Rattle.flow.specs.Standing.{Standing, ready}
-use Rattle.flow.specs.Replies.{Tries}
+use Rattle.mount_model.specs.declared.stuck.Stuck.{Stuck}
+use Rattle.mount_model.specs.Program.{done}
+use Rattle.mount_model.specs.Standing.{Standing, ready}
+use Rattle.mount_model.specs.FlowReplies.{Tries}
 use Rattle.mount_model.specs.declared.call.Call.{Call}
 use Rattle.mount_model.specs.declared.reply.Reply.{Reply}
 use Rattle.index_reader.specs.declared.truncs.TruncRead.{TruncRead}

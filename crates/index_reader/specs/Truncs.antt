@@ -2,10 +2,10 @@
 use Rattle.std.specs.Prelude.{ℕ, ◌+◌, ◌==◌, nat_lt, Bool, if◌then◌else◌, List, [], ◌∷◌, ◌++◌, take, drop, Option, Some, None, Result, Ok, Err}
 use Rattle.plfs_types.specs.declared.entries.Trunc.{Trunc}
 use Rattle.plfs_types.specs.declared.names.Path.{Path}
-use Rattle.flow.specs.declared.stuck.Stuck.{Stuck}
-use Rattle.flow.specs.Names.{trunc_in}
-use Rattle.flow.specs.Replies.{Tries, given, names_in, damage, trouble}
-use Rattle.story.specs.Program.{done, ask}
+use Rattle.mount_model.specs.declared.stuck.Stuck.{Stuck}
+use Rattle.mount_model.specs.Names.{trunc_in}
+use Rattle.mount_model.specs.FlowReplies.{Tries, given, names_in, damage, trouble}
+use Rattle.mount_model.specs.Program.{done, ask}
 use Rattle.mount_model.specs.declared.call.Call.TheVariants.{Look}
 use Rattle.mount_model.specs.declared.call.Look.TheVariants.{List as ListFolder}
 use Rattle.mount_model.specs.Paths.{Name, truncs}

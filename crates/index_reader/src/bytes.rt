@@ -1,14 +1,13 @@
 //! Reading a file's bytes up to a length that was told.
 ghost use Rattle.std.specs.Prelude.{◌≡◌, ◌≤◌, ◌<◌, ◌++◌, ℕ, Some, IfOk, OnOk};
-ghost use Rattle.flow.specs.Standing.{ready, next_of, rest_of, replied};
+ghost use Rattle.mount_model.specs.Standing.{ready, next_of, rest_of, replied};
 ghost use Rattle.mount_model.specs.declared.call.Call.TheVariants as calls;
 ghost use Rattle.mount_model.specs.declared.call.Look.TheVariants as look;
 ghost use Rattle.index_reader.specs.FileReads.{next_part as part_next, bytes_left, first_rest};
 ghost use Rattle.index_reader.specs.FileStages.{file_left, part_left, part_calls};
 
 use crate::parts::FileRead;
-use flow::{Stuck, bytes_in, trouble};
-use mount_model::{Call, Look, Reply};
+use mount_model::{Call, Look, Reply, Stuck, bytes_in, trouble};
 use plfs_types::{Bytes, MAX_PIECE, NoMemory, Path};
 use std::alloc::Global;
 

@@ -1,11 +1,11 @@
 //! The entries of an index dropping, which are checked in order.
 ghost use Rattle.std.specs.Prelude.{All, ◌≡◌, ◌+◌, ◌*◌, ◌≤◌, ◌<◌, ◌^◌, length, true, OnOk, IfOk};
-ghost use Rattle.flow.specs.Entries.{is_next as next_of};
+ghost use Rattle.mount_model.specs.Entries.{is_next as next_of};
 ghost use Rattle.index_reader.specs.declared.entries.Went.TheVariants.{On};
 ghost use Rattle.interval_merge.specs.Writer.{HasPiece};
 ghost use Rattle.index_reader.specs.Entries.{longer as longer_of, checked};
 
-use flow::{first_entry, is_next, past_first};
+use mount_model::{first_entry, is_next, past_first};
 use plfs_types::{Cover, ENTRY_SIZE, Entry, EntryList, NoMemory};
 
 /// What was read of an index dropping: the entries that a flattened index doesn't cover, and a cover of all.

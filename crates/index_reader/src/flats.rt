@@ -1,8 +1,8 @@
 //! Reading a flattened index.
 ghost use Rattle.std.specs.Prelude.{◌≡◌, ◌<◌, ◌≤◌, ◌+◌, ◌^◌, ℕ, Some, IfOk};
-ghost use Rattle.story.specs.Program.{done, followed_by};
-ghost use Rattle.flow.specs.Standing.{ready, next_of, rest_of, replied};
-ghost use Rattle.flow.specs.Replies.{on_ok};
+ghost use Rattle.mount_model.specs.Program.{done, followed_by};
+ghost use Rattle.mount_model.specs.Standing.{ready, next_of, rest_of, replied};
+ghost use Rattle.mount_model.specs.FlowReplies.{on_ok};
 ghost use Rattle.mount_model.specs.Paths.{flat_path as path_of_flat};
 ghost use Rattle.index_reader.specs.FileStages.{part_left, part_calls};
 ghost use Rattle.index_reader.specs.FlatRules.{flat_fault, flat_told, has_head as begins};
@@ -15,9 +15,8 @@ use crate::parts::FileRead;
 use crate::replies::number_in;
 use container_layout::{Item, print};
 use flat_format::{COVER_SIZE, FlatTrouble, HEAD_SIZE, decode};
-use flow::{Stuck, bytes_in, damage, trouble};
 use index_entry::number_at;
-use mount_model::{Call, Look, Reply};
+use mount_model::{Call, Look, Reply, Stuck, bytes_in, damage, trouble};
 use plfs_types::{Bytes, ENTRY_SIZE, NoMemory, Path};
 use std::alloc::Global;
 

@@ -1,12 +1,11 @@
 //! The next call of an opening's listing.
 ghost use Rattle.std.specs.Prelude.{◌≡◌, Some, IfOk, IfSome};
-ghost use Rattle.flow.specs.Standing.{next_of, rest_of};
+ghost use Rattle.mount_model.specs.Standing.{next_of, rest_of};
 ghost use Rattle.mount_model.specs.Step.{OwedBy};
 ghost use Rattle.index_reader.specs.OpenStages.{open_calls_left, open_standing};
 
 use crate::opening::OpenRead;
-use flow::Flow;
-use mount_model::Call;
+use mount_model::{Call, Flow};
 use plfs_types::NoMemory;
 
 /// The next call of a listing, and where that stands once it was given.

@@ -2,7 +2,7 @@
 //! the bytes of the file from the logs.
 //!
 //! The crate owns which calls each of these makes, in which order, and what comes of the replies: each machine has its
-//! program of calls. It stands on `flow` and on the mount's model, and needs no mount.
+//! program of calls. It stands on `mount_model` and on the mount's model, and needs no mount.
 #![tactic(auto)]
 
 mod bytes;

@@ -1,6 +1,6 @@
 //! What comes of all listings of a container.
 ghost use Rattle.std.specs.Prelude.{◌≡◌, ℕ, Result, IfOk};
-ghost use Rattle.flow.specs.declared.stuck.Stuck.{Stuck as Trouble};
+ghost use Rattle.mount_model.specs.declared.stuck.Stuck.{Stuck as Trouble};
 ghost use Rattle.index_reader.specs.declared.listing.Listing.{Listing as Listed};
 ghost use Rattle.index_reader.specs.Replies.{on_trouble};
 ghost use Rattle.index_reader.specs.OpenStages.{as_listing};
@@ -13,7 +13,7 @@ use crate::owners::Owners;
 use crate::packs::packed_path;
 use crate::scanning::Scan;
 use flat_format::{COVER_SIZE, Flat, HEAD_SIZE};
-use flow::{Stuck, damage};
+use mount_model::{Stuck, damage};
 use plain_file::{PieceList, Pieces};
 use plfs_types::{Cover, CoverList, NoMemory};
 use std::alloc::Global;

@@ -4,7 +4,7 @@ ghost use Rattle.index_reader.specs.Items.{flat_item as item_of_flats, is_flats 
 ghost use Rattle.index_reader.specs.Newest.{flats_path as path_of_flats, greater_id as greater_of, newest_in as newest_of};
 
 use container_layout::{Item, flats, read};
-use flow::{Stuck, damage};
+use mount_model::{Stuck, damage};
 use plfs_types::{Name, Path};
 
 pub(crate) fn flats_path(name: Name) -> Path

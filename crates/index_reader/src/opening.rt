@@ -1,8 +1,8 @@
 //! Listing a container.
 ghost use Rattle.std.specs.Prelude.{◌≡◌, ◌≤◌, ◌<◌, ◌+◌, ◌^◌, ◌∷◌, length, IfOk};
-ghost use Rattle.story.specs.Program.{followed_by};
-ghost use Rattle.flow.specs.Standing.{ready, next_of, rest_of, replied, Awaits, IsOver, over};
-ghost use Rattle.flow.specs.Replies.{on_ok};
+ghost use Rattle.mount_model.specs.Program.{followed_by};
+ghost use Rattle.mount_model.specs.Standing.{ready, next_of, rest_of, replied, Awaits, IsOver, over};
+ghost use Rattle.mount_model.specs.FlowReplies.{on_ok};
 ghost use Rattle.index_reader.specs.Listing.{AreByWriter};
 ghost use Rattle.index_reader.specs.Covered.{AreByWriter as AreCoversByWriter};
 ghost use Rattle.index_reader.specs.Scanning.{nothing_found};
@@ -18,8 +18,7 @@ use crate::newest::{flats_path, newest_in};
 use crate::scanning::{Scan, file_in};
 use crate::tops::folders;
 use container_layout::{flats, hostdir};
-use flow::{Flow, Stuck, names_in, room_in, trouble};
-use mount_model::{Call, Look, Reply};
+use mount_model::{Call, Flow, Look, Reply, Stuck, names_in, room_in, trouble};
 use plfs_types::{LogicalName, Name, NoMemory, Queue, Sequence};
 use std::alloc::Global;
 use std::mem;

@@ -11,9 +11,9 @@ ghost use Rattle.index_reader.specs.Packed.{IsOfOne, headed_program};
 ghost use Rattle.index_reader.specs.Packs.{if_headed, head_fault as fault_of, run_of as run_with, run_place as place_of_run, writer_of as owner_of, begins_covered as covers_first, tail_past as past, pack_tail};
 
 use crate::entries::Tail;
-use flow::{Stuck, damage};
 use index_entry::number_at;
 use index_pack::{HEAD_SIZE, PackTrouble, RUN_SIZE, unpack};
+use mount_model::{Stuck, damage};
 use plfs_types::{Bytes, Cover, Entry, EntryList, MAX_PACKED, NoMemory, Path};
 use std::alloc::Global;
 

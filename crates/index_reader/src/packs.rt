@@ -1,9 +1,9 @@
 //! Reading the packed index of one writer.
 ghost use Rattle.std.specs.Prelude.{◌≡◌, ◌≤◌, ◌<◌, ◌+◌, ◌^◌, ℕ, Some, IfOk};
 ghost use Rattle.index_pack.specs.declared.trouble.TheConstants.{HEAD_SIZE as HEAD};
-ghost use Rattle.story.specs.Program.{done, followed_by};
-ghost use Rattle.flow.specs.Standing.{ready, next_of, rest_of, replied};
-ghost use Rattle.flow.specs.Replies.{on_ok};
+ghost use Rattle.mount_model.specs.Program.{done, followed_by};
+ghost use Rattle.mount_model.specs.Standing.{ready, next_of, rest_of, replied};
+ghost use Rattle.mount_model.specs.FlowReplies.{on_ok};
 ghost use Rattle.index_reader.specs.FileStages.{part_left, part_calls};
 ghost use Rattle.index_reader.specs.PackRules.{pack_told};
 ghost use Rattle.index_reader.specs.Packs.{packed_path as path_of_packed, pack_program, head_then, pack_rest, pack_tail};
@@ -17,9 +17,8 @@ use crate::replies::number_in;
 use crate::steps::{DroppingRead, PackRead, PackStep};
 use crate::tails::After;
 use container_layout::{Item, print};
-use flow::{bytes_in, damage, trouble};
 use index_pack::HEAD_SIZE;
-use mount_model::{Call, Look, Reply};
+use mount_model::{Call, Look, Reply, bytes_in, damage, trouble};
 use plfs_types::{Bytes, Cover, EntryList, NoMemory, Path};
 use std::alloc::Global;
 

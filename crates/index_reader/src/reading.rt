@@ -1,6 +1,6 @@
 //! Reading bytes of a file from the logs.
 ghost use Rattle.std.specs.Prelude.{◌≡◌, ◌≤◌, ◌<◌, ◌+◌, ◌^◌, ℕ, [], ◌++◌, length, take, replicate, ◌↔◌, IsTrue, IfOk, OnOk, Ok};
-ghost use Rattle.flow.specs.Standing.{ready, next_of, rest_of, replied, Awaits, IsOver};
+ghost use Rattle.mount_model.specs.Standing.{ready, next_of, rest_of, replied, Awaits, IsOver};
 ghost use Rattle.read_plan.specs.Plan.{plan_of};
 ghost use Rattle.index_reader.specs.Reading.{spells, read_program, ends_at as end_of};
 ghost use Rattle.index_reader.specs.ReadingStages.{part_left, part_calls, read_standing, read_left};
@@ -9,8 +9,7 @@ use crate::bytes::add;
 use crate::opened::OpenReader;
 use crate::placing::{Place, Placed, place_all};
 use crate::tails::log_path;
-use flow::{Flow, Stuck, bytes_in, damage, trouble};
-use mount_model::{Call, Look, Reply};
+use mount_model::{Call, Flow, Look, Reply, Stuck, bytes_in, damage, trouble};
 use plfs_types::{Bytes, NoMemory, Queue};
 use read_plan::plan;
 use std::alloc::Global;

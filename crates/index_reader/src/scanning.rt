@@ -1,7 +1,7 @@
 //! What the listings of a container's folders of droppings show.
 ghost use Rattle.std.specs.Prelude.{◌≡◌, ◌≤◌, [], length, Result, Ok, IfOk, IfSome};
-ghost use Rattle.flow.specs.declared.stuck.Stuck.{Stuck as Trouble};
-ghost use Rattle.flow.specs.Listed.{file_in as path_in};
+ghost use Rattle.mount_model.specs.declared.stuck.Stuck.{Stuck as Trouble};
+ghost use Rattle.mount_model.specs.FlowListed.{file_in as path_in};
 ghost use Rattle.index_reader.specs.declared.scanning.Scan.{Scan as Scanned};
 ghost use Rattle.index_reader.specs.Replies.{on_trouble};
 ghost use Rattle.index_reader.specs.Items.{hostdir_item as item_of_hostdir, is_of_hostdir as of_hostdir};
@@ -9,7 +9,7 @@ ghost use Rattle.index_reader.specs.Scanning.{nothing_found, foreign_in as forei
 
 use crate::owners::Owners;
 use container_layout::{Item, read};
-use flow::{Stuck, damage};
+use mount_model::{Stuck, damage};
 use plfs_types::{Name, NoMemory, Path};
 use std::alloc::Global;
 

@@ -1,9 +1,9 @@
 //! Reading a share of a container's index droppings.
 ghost use Rattle.std.specs.Prelude.{All, ◌≡◌, ◌≤◌, ◌<◌, ◌+◌, ◌*◌, ◌^◌, ℕ, List, [], length, Some, IfOk, OnOk};
 ghost use Rattle.interval_merge.specs.Writer.{HasPiece};
-ghost use Rattle.story.specs.Program.{followed_by};
-ghost use Rattle.flow.specs.Standing.{ready, next_of, rest_of, replied, Awaits};
-ghost use Rattle.flow.specs.Replies.{on_ok};
+ghost use Rattle.mount_model.specs.Program.{followed_by};
+ghost use Rattle.mount_model.specs.Standing.{ready, next_of, rest_of, replied, Awaits};
+ghost use Rattle.mount_model.specs.FlowReplies.{on_ok};
 ghost use Rattle.index_reader.specs.Runs.{merged_of, pieces_of};
 ghost use Rattle.index_reader.specs.Covered.{AreByWriter, cover_of as cover_for};
 ghost use Rattle.index_reader.specs.Sharing.{nothing, added, share_of, dropping_program, gathers, share_program};
@@ -14,9 +14,8 @@ use crate::entries::Tail;
 use crate::listing::{Dropping, DroppingList};
 use crate::steps::{DroppingRead, PackRead, TailRead};
 use crate::tails::After;
-use flow::{Flow, Stuck};
 use interval_merge::{PiecesList, merge_all, of_writer};
-use mount_model::{Call, Reply};
+use mount_model::{Call, Flow, Reply, Stuck};
 use plain_file::{PieceList, Pieces};
 use plfs_types::{Cover, CoverList, Entry, NoMemory, Queue};
 use std::alloc::Global;

@@ -1,6 +1,6 @@
 //! Reading the entries of one index dropping.
 ghost use Rattle.std.specs.Prelude.{◌≡◌, ◌<◌, ◌+◌, ◌^◌, IfOk};
-ghost use Rattle.flow.specs.Standing.{ready, next_of, rest_of, replied, Awaits};
+ghost use Rattle.mount_model.specs.Standing.{ready, next_of, rest_of, replied, Awaits};
 ghost use Rattle.index_reader.specs.Packs.{no_tail};
 ghost use Rattle.index_reader.specs.Stages.{after_calls, after_left, tail_calls, tail_standing};
 ghost use Rattle.index_reader.specs.Tails.{tail_program};
@@ -10,8 +10,7 @@ use crate::listing::Dropping;
 use crate::sharing::{after_dropping, dropping_call};
 use crate::steps::{DroppingRead, TailRead};
 use crate::tails::After;
-use flow::{Flow, Stuck};
-use mount_model::{Call, Reply};
+use mount_model::{Call, Flow, Reply, Stuck};
 use plfs_types::{Cover, NoMemory};
 use std::alloc::Global;
 use std::mem;

@@ -1,7 +1,7 @@
 //! Reading what a flattened index doesn't cover of one writer's index dropping.
 ghost use Rattle.std.specs.Prelude.{All, ℕ, ◌≡◌, ◌≤◌, ◌<◌, ◌+◌, ◌*◌, ◌^◌, Some, IfOk, OnOk};
 ghost use Rattle.interval_merge.specs.Writer.{HasPiece};
-ghost use Rattle.flow.specs.Standing.{ready, next_of, rest_of, replied};
+ghost use Rattle.mount_model.specs.Standing.{ready, next_of, rest_of, replied};
 ghost use Rattle.mount_model.specs.Paths.{index_path as path_of_index, log_path as path_of_log};
 ghost use Rattle.index_reader.specs.Tails.{tail_program, looked, reads_left};
 ghost use Rattle.index_reader.specs.Packs.{no_tail};
@@ -12,8 +12,7 @@ use crate::listing::Dropping;
 use crate::replies::{log_length_in, number_in};
 use crate::steps::{DroppingRead, Step, TailRead};
 use container_layout::{Item, print};
-use flow::{Stuck, bytes_in, damage, next_read, trouble};
-use mount_model::{Call, Look, Reply};
+use mount_model::{Call, Look, Reply, Stuck, bytes_in, damage, next_read, trouble};
 use plfs_types::{Cover, ENTRY_SIZE, EntryList, NoMemory, Path};
 use std::alloc::Global;
 

@@ -1,6 +1,6 @@
 //! The top of a container.
 ghost use Rattle.std.specs.Prelude.{◌≡◌, ◌≤◌, ◌++◌, ◌∷◌, List, ℕ, [], length, Result, Ok, IfOk, OnOk};
-ghost use Rattle.flow.specs.declared.stuck.Stuck.{Stuck as Trouble};
+ghost use Rattle.mount_model.specs.declared.stuck.Stuck.{Stuck as Trouble};
 ghost use Rattle.index_reader.specs.Replies.{on_trouble};
 ghost use Rattle.index_reader.specs.Searching.{has_name as has};
 ghost use Rattle.index_reader.specs.Tops.{access as access_name, top_names as names_of_top, foreign_at_top as foreign, required, shown as shown_of, top_shows};
@@ -8,7 +8,7 @@ ghost use Rattle.container_layout.specs.Paths.{hostdirs};
 
 use crate::scanning::file_in;
 use container_layout::{flats, hostdir, metadata, openhosts, truncs};
-use flow::{Stuck, damage};
+use mount_model::{Stuck, damage};
 use plfs_types::{Name, NameList, NoMemory, Path, Sequence};
 use std::alloc::Global;
 

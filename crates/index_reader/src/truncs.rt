@@ -1,12 +1,13 @@
 //! Listing a container's truncates.
 ghost use Rattle.std.specs.Prelude.{◌≡◌, ◌<◌, [], IfOk};
-ghost use Rattle.flow.specs.Standing.{ready, next_of, rest_of, replied};
+ghost use Rattle.mount_model.specs.Standing.{ready, next_of, rest_of, replied};
 ghost use Rattle.index_reader.specs.Truncs.{truncs_listed, truncs_of, trunc_program, truncs_path as path_of_truncs};
 ghost use Rattle.index_reader.specs.TruncStages.{list_left, list_calls, trunc_standing, trunc_left};
 
 use container_layout::truncs;
-use flow::{Flow, Stuck, damage, names_in, trouble, trunc_in, truncs_by_stamp};
-use mount_model::{Call, Look, Reply};
+use mount_model::{
+    Call, Flow, Look, Reply, Stuck, damage, names_in, trouble, trunc_in, truncs_by_stamp,
+};
 use plfs_types::{Name, NoMemory, Path, TruncList};
 use std::alloc::Global;
 

@@ -6,11 +6,11 @@ use Rattle.plfs_types.specs.Counts.{HasRisen}
 use Rattle.plfs_types.specs.declared.names.Path.{Path}
 use Rattle.store_api.specs.declared.step.Answer.{Answer}
 use Rattle.store_api.specs.declared.step.Answer.TheVariants as answer
-use Rattle.flow.specs.declared.stuck.Stuck.{Stuck}
-use Rattle.flow.specs.declared.stuck.Stuck.TheVariants as stuck
-use Rattle.flow.specs.Running.{Runs}
-use Rattle.flow.proofs.Facts.{runs_done, runs_next}
-use Rattle.story.specs.Program.{Program, done, ask, followed_by}
+use Rattle.mount_model.specs.declared.stuck.Stuck.{Stuck}
+use Rattle.mount_model.specs.declared.stuck.Stuck.TheVariants as stuck
+use Rattle.mount_model.specs.Running.{Runs}
+use Rattle.mount_model.proofs.Flows.Facts.{runs_done, runs_next}
+use Rattle.mount_model.specs.Program.{Program, done, ask, followed_by}
 use Rattle.mount_model.specs.declared.call.Ask.{Ask}
 use Rattle.mount_model.specs.declared.call.Call.{Call}
 use Rattle.mount_model.specs.declared.call.Call.TheVariants.{Look}
@@ -24,7 +24,7 @@ use Rattle.mount_model.specs.History.{Event, state_after}
 use Rattle.mount_model.specs.State.{State}
 use Rattle.mount_model.proofs.Facts.{step_causes, step_fits}
 use Rattle.mount_sound.specs.Owed.{IsLawful}
-use Rattle.flow.specs.Replies.{Tries, failure, given, on_ok, trouble}
+use Rattle.mount_model.specs.FlowReplies.{Tries, failure, given, on_ok, trouble}
 use Rattle.mount_core.specs.Memory.{HadMemory}
 use Rattle.lone_flow.specs.Faults.{IsFault}
 

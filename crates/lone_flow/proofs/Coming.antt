@@ -1,8 +1,8 @@
 -- How a machine comes to its end, call by call.
 use Rattle.std.proofs.Common.{◌≡◌, ◌≢◌, List, [], ◌∷◌, ◌++◌, Some, None, refl, sym, ap, ◌∙◌, subst, append_assoc, append-nil}
 use Rattle.std.specs.List.{AllByRecursion}
-use Rattle.flow.specs.Running.{Runs, asking, unbroken}
-use Rattle.flow.specs.Standing.{Rest, Standing, Awaits, IsOver, asked, awaits, next_of, over, ready, replied, rest_of}
+use Rattle.mount_model.specs.Running.{Runs, asking, unbroken}
+use Rattle.mount_model.specs.Standing.{Rest, Standing, Awaits, IsOver, asked, awaits, next_of, over, ready, replied, rest_of}
 use Rattle.mount_model.specs.declared.call.Call.{Call}
 use Rattle.mount_model.specs.declared.call.Call.TheVariants.{Greet}
 use Rattle.mount_model.specs.declared.reply.Reply.{Reply}
@@ -12,9 +12,9 @@ use Rattle.mount_model.specs.State.{State}
 use Rattle.mount_model.specs.Step.{IsStep}
 use Rattle.mount_core.proofs.Memory.{before_last, none_refused}
 use Rattle.mount_sound.specs.Owed.{IsLawful, May, Permits}
-use Rattle.story.specs.Program.{Program, done, ask}
-use Rattle.story.specs.Safe.{IsSafe}
-use Rattle.story.proofs.Facts.{after_own}
+use Rattle.mount_model.specs.Program.{Program, done, ask}
+use Rattle.mount_model.specs.Safe.{IsSafe}
+use Rattle.mount_model.proofs.Stories.Facts.{after_own}
 use Rattle.lone_flow.specs.Driving.{AreMade, BeginsToDrive, Drives, MayDrive, Nears, NearsFrom, greets_first}
 
 -- ---- calls, and one call more

@@ -2,3 +2,5 @@ mod Causes
 mod Coming
 mod Migrations
 mod Packs
+pub mod SmallPuts
+pub mod SmallReads

@@ -8,8 +8,8 @@ use Rattle.container_layout.specs.declared.items.Item.{Item}
 use Rattle.container_layout.specs.declared.items.Item.TheVariants as item
 use Rattle.container_layout.specs.Paths.{hostdir_of}
 use Rattle.plfs_types.specs.declared.limits.TheConstants.{MAX_PACKED}
-use Rattle.flow.specs.declared.stuck.Stuck.{Stuck}
-use Rattle.story.specs.Program.{done, ask, followed_by}
+use Rattle.mount_model.specs.declared.stuck.Stuck.{Stuck}
+use Rattle.mount_model.specs.Program.{done, ask, followed_by}
 use Rattle.mount_model.specs.declared.call.Call.TheVariants.{Look}
 use Rattle.mount_model.specs.declared.call.Look.{Look as Looking}
 use Rattle.mount_model.specs.declared.call.Look.TheVariants.{Length, List as ListFolder, Read, Top}
@@ -18,10 +18,10 @@ use Rattle.mount_model.specs.declared.reply.Reply.{Reply}
 use Rattle.mount_model.specs.declared.reply.Reply.TheVariants.{Done, Fault, Looked, NoMemory, Room, Started}
 use Rattle.mount_model.specs.Paths.{Name, flats, index_path, metadata, truncs}
 use Rattle.mount_model.specs.Replies.{IsTrouble, refused, damaged, fault, no_memory}
-use Rattle.flow.specs.declared.names.Metadata.{Metadata}
-use Rattle.flow.specs.Listed.{file_in, or_trouble, told_by}
-use Rattle.flow.specs.Names.{meta_in}
-use Rattle.flow.specs.Replies.{Tries, bytes_in, damage, failure, given, on_ok, room_in, trouble, names_in}
+use Rattle.mount_model.specs.declared.names.Metadata.{Metadata}
+use Rattle.mount_model.specs.FlowListed.{file_in, or_trouble, told_by}
+use Rattle.mount_model.specs.Names.{meta_in}
+use Rattle.mount_model.specs.FlowReplies.{Tries, bytes_in, damage, failure, given, on_ok, room_in, trouble, names_in}
 use Rattle.index_reader.specs.declared.listing.Listing.{Listing}
 use Rattle.index_reader.specs.declared.scanning.Scan.{Scan}
 use Rattle.index_reader.specs.Opening.{listed, listing_of, lone_pack, no_flat, scans, uncovered, unless_lone, unless_uncovered}
@@ -38,7 +38,7 @@ use Rattle.migrate_core.specs.Entries.{checked, no_entries}
 use Rattle.migrate_core.specs.Migrating.{lists_metadata, migrate_at_program, migrate_program, migrates, migrates_listed, migrates_shown}
 use Rattle.migrate_core.specs.Words.{Fate, Packed, Tail, is_packed, passed_over}
 use Rattle.migrate_core.specs.Writers.{counts_of, flat_in, if_done, installs, or_damage, puts, reads, reads_then, sized, starts, syncs, writer_program}
-use Rattle.flow.specs.Entries.{next_read, reads_of}
+use Rattle.mount_model.specs.Entries.{next_read, reads_of}
 use Rattle.index_reader.specs.Replies.{number_in}
 use Rattle.lone_flow.proofs.Causes.{EndsWell, HasNoFault, IsAnswered, IsNoFault, either_well, failure_plain, given_well, look_plain, on_ok_well, then_well}
 

@@ -3,10 +3,10 @@ use Rattle.std.proofs.Common.{◌≡◌, inl, inr, ℕ, List, [], ◌∷◌, Res
 use Rattle.std.specs.List.{AllByRecursion}
 use Rattle.std.specs.Prelude.{OnErr}
 use Rattle.plfs_types.specs.Counts.{HasRisen}
-use Rattle.flow.specs.declared.stuck.Stuck.{Stuck}
-use Rattle.flow.specs.Running.{Runs, asking}
-use Rattle.flow.specs.Standing.{Standing, ready}
-use Rattle.flow.proofs.Facts.{runs_next}
+use Rattle.mount_model.specs.declared.stuck.Stuck.{Stuck}
+use Rattle.mount_model.specs.Running.{Runs, asking}
+use Rattle.mount_model.specs.Standing.{Standing, ready}
+use Rattle.mount_model.proofs.Flows.Facts.{runs_next}
 use Rattle.mount_model.specs.declared.call.Ask.{Ask}
 use Rattle.mount_model.specs.declared.call.Call.{Call}
 use Rattle.mount_model.specs.declared.call.Call.TheVariants.{Greet}
@@ -19,8 +19,8 @@ use Rattle.mount_model.specs.Step.{IsStep}
 use Rattle.mount_sound.specs.Owed.{IsLawful, Permits}
 use Rattle.mount_sound.specs.Sound.{IsClean, IsFine, IsSoundFor}
 use Rattle.mount_sound.proofs.Facts.{later}
-use Rattle.story.specs.Program.{Program}
-use Rattle.story.specs.Safe.{IsSafe}
+use Rattle.mount_model.specs.Program.{Program}
+use Rattle.mount_model.specs.Safe.{IsSafe}
 use Rattle.migrate_core.specs.declared.migrated.Migrated.{Migrated}
 use Rattle.migrate_core.specs.Migrating.{migrate_program}
 use Rattle.migrate_laws.specs.Migrated.{HasMigrated}

@@ -1,8 +1,8 @@
 -- What a caller by itself makes of a machine on a mount.
 use Rattle.std.specs.Prelude.{◌≡◌, List, ◌++◌}
 use Rattle.std.specs.List.{AllByRecursion}
-use Rattle.flow.specs.Running.{Runs, asking}
-use Rattle.flow.specs.Standing.{Standing, ready, asked}
+use Rattle.mount_model.specs.Running.{Runs, asking}
+use Rattle.mount_model.specs.Standing.{Standing, ready, asked}
 use Rattle.mount_model.specs.declared.call.Call.{Call}
 use Rattle.mount_model.specs.declared.call.Call.TheVariants.{Greet}
 use Rattle.mount_model.specs.declared.reply.Reply.{Reply}
@@ -11,8 +11,8 @@ use Rattle.mount_model.specs.State.{State}
 use Rattle.mount_model.specs.Step.{IsStep}
 use Rattle.mount_core.specs.Memory.{HadMemory, HadMemoryBeforeLast}
 use Rattle.mount_sound.specs.Owed.{IsLawful, Permits}
-use Rattle.story.specs.Program.{Program, ask}
-use Rattle.story.specs.Safe.{IsSafe}
+use Rattle.mount_model.specs.Program.{Program, ask}
+use Rattle.mount_model.specs.Safe.{IsSafe}
 
 -- These calls lead from one state to the other. All are caller 0's, who of each owed no more than it met.
 pub record AreMade (start : State) (events : List Event) (end : State) : Type 0 where

@@ -1,3 +1,13 @@
+pub mod Beginning
+pub mod Calling
 pub mod Driving
 pub mod Faults
+pub mod Free
+pub mod Looking
 pub mod Migrating
+pub mod Naming
+pub mod Packing
+pub mod Putting
+pub mod Scans
+pub mod Settling
+pub mod Unpacking

@@ -1,6 +1,6 @@
 -- A migration that one caller made by itself.
 use Rattle.std.specs.Prelude.{List, ℕ, Result, IfOk}
-use Rattle.flow.specs.declared.stuck.Stuck.{Stuck}
+use Rattle.mount_model.specs.declared.stuck.Stuck.{Stuck}
 use Rattle.mount_model.specs.State.{State}
 use Rattle.mount_sound.specs.Sound.{IsClean}
 use Rattle.migrate_core.specs.declared.migrated.Migrated.{Migrated}

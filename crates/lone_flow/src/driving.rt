@@ -1,13 +1,12 @@
 //! A machine is driven by one caller.
 ghost use Rattle.std.specs.Prelude.{IfOk, OnErr};
-ghost use Rattle.flow.specs.Running.{unbroken};
+ghost use Rattle.mount_model.specs.Running.{unbroken};
 ghost use Rattle.mount_model.specs.Step.{IsStep, OwedBy};
 ghost use Rattle.lone_flow.specs.Driving.{BeginsToDrive, Drives, MayDrive};
 
 use edge_io::Clock;
-use flow::Flow;
 use mount_core::Mount;
-use mount_model::{Ask, Call, Reply};
+use mount_model::{Ask, Call, Flow, Reply};
 use plfs_types::NoMemory;
 use store_api::Store;
 

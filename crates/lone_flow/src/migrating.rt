@@ -10,10 +10,10 @@ ghost use Rattle.lone_flow.specs.Migrating.{Migrates};
 
 use crate::driving::drive;
 use edge_io::Clock;
-use flow::Stuck;
 use migrate_core::{MigrateFlow, Migrated};
 use migrate_laws::{a_migration_is_always_allowed, a_migration_leaves_no_writer_out};
 use mount_core::Mount;
+use mount_model::Stuck;
 use plfs_types::{LogicalName, NoMemory};
 use std::alloc::Global;
 use store_api::Store;

@@ -16,11 +16,11 @@ use Rattle.mount_sound.specs.Items.{HasItem, HasMeta}
 use Rattle.mount_sound.specs.Ledger.{entries_in}
 use Rattle.mount_sound.specs.There.{entries_there, landed_entries}
 use Rattle.mount_sound.proofs.Facts.{writer_told}
-use Rattle.flow.specs.declared.names.Metadata.{Metadata}
-use Rattle.gathering.specs.Gathering.{Gathered, IsAdmissible, IsPrefixOf}
-use Rattle.gathering.specs.Moments.{Dropping, Grows, HadItem, IsNamed, IsSoundAt, Moment, Stood, index_then, issued_by, landed, landed_by, log_then}
-use Rattle.gathering.specs.View.{WritersRise, own_entries}
-use Rattle.gathering.proofs.Facts.{entries_stay, in_a_room, in_tree, landed_at, landed_is_first, landed_whole, length-entries, length_taken, stood_grows}
+use Rattle.mount_model.specs.declared.names.Metadata.{Metadata}
+use Rattle.reader_laws.specs.Gathering.{Gathered, IsAdmissible, IsPrefixOf}
+use Rattle.reader_laws.specs.Moments.{Dropping, Grows, HadItem, IsNamed, IsSoundAt, Moment, Stood, index_then, issued_by, landed, landed_by, log_then}
+use Rattle.reader_laws.specs.View.{WritersRise, own_entries}
+use Rattle.reader_laws.proofs.Gathered.Facts.{entries_stay, in_a_room, in_tree, landed_at, landed_is_first, landed_whole, length-entries, length_taken, stood_grows}
 use Rattle.look_laws.proofs.Leavings.{AreLeft, HasNobody, had_item, left_by}
 
 -- the metadata has this writer's, or none

@@ -26,18 +26,18 @@ use Rattle.container_layout.specs.Paths.{openhosts}
 use Rattle.mount_model.specs.State.{State, last_id}
 use Rattle.mount_model.specs.Step.{Answers}
 use Rattle.mount_model.proofs.Facts.{is_container, match_cases}
-use Rattle.mount_shape.specs.Shape.{IsDrawnBy}
-use Rattle.mount_shape.proofs.Facts.{container_at, item_held, shape_of}
+use Rattle.mount_sound.specs.Shape.{IsDrawnBy}
+use Rattle.mount_sound.proofs.Shapes.Facts.{container_at, item_held, shape_of}
 use Rattle.mount_sound.specs.Dropping.{IsToldOf, IsWriter}
 use Rattle.mount_sound.specs.Items.{HasItem}
 use Rattle.mount_sound.specs.Ledger.{entries_in}
 use Rattle.mount_sound.specs.There.{landed_entries}
 use Rattle.mount_sound.proofs.Facts.{writer_told}
-use Rattle.flow.specs.declared.names.Metadata.{Metadata}
-use Rattle.flow.specs.Names.{meta_in}
-use Rattle.flow.proofs.Facts.{meta_in-found, meta_in-is}
-use Rattle.gathering.specs.Moments.{Dropping, HadItem, IsSoundAt, Moment, file_in_room, file_told, landed_by}
-use Rattle.gathering.proofs.Facts.{file_named, folder_listed, in_a_room, in_tree, landed_at, named_file}
+use Rattle.mount_model.specs.declared.names.Metadata.{Metadata}
+use Rattle.mount_model.specs.Names.{meta_in}
+use Rattle.mount_model.proofs.Flows.Facts.{meta_in-found, meta_in-is}
+use Rattle.reader_laws.specs.Moments.{Dropping, HadItem, IsSoundAt, Moment, file_in_room, file_told, landed_by}
+use Rattle.reader_laws.proofs.Gathered.Facts.{file_named, folder_listed, in_a_room, in_tree, landed_at, named_file}
 use Rattle.look_laws.proofs.Named.{AreOf, differ_so, name_of, told_by_name}
 use Rattle.look_laws.proofs.Orders.{Differ}
 

@@ -4,11 +4,11 @@ use Rattle.std.specs.List.{AllByRecursion}
 use Rattle.std.proofs.lemmas.List.{append-nil}
 use Rattle.plain_file.proofs.Facts.{Among}
 use Rattle.store_laws.specs.Differ.{is_listed, NamesDiffer}
-use Rattle.flow.specs.declared.stuck.Stuck.{Stuck}
+use Rattle.mount_model.specs.declared.stuck.Stuck.{Stuck}
 use Rattle.mount_model.specs.Paths.{Name}
-use Rattle.flow.specs.Listed.{file_in, known}
-use Rattle.flow.specs.Replies.{damage}
-use Rattle.gathering.proofs.Facts.{among_listed}
+use Rattle.mount_model.specs.FlowListed.{file_in, known}
+use Rattle.mount_model.specs.FlowReplies.{damage}
+use Rattle.reader_laws.proofs.Gathered.Facts.{among_listed}
 use Rattle.look_laws.proofs.Orders.{Differ}
 
 -- each of these is what one of the names tells, in their order

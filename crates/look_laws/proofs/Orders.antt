@@ -4,8 +4,8 @@ use Rattle.std.specs.List.{AllByRecursion}
 use Rattle.std.proofs.lemmas.Bool.{cases_Bool, cond-true, cond-false}
 use Rattle.std.proofs.lemmas.Bool.Decides.{nat_tests}
 use Rattle.plain_file.proofs.Facts.{Among}
-use Rattle.gathering.proofs.Facts.{All-weaker}
-use Rattle.flow.specs.Order.{put_by, ordered_by}
+use Rattle.reader_laws.proofs.Gathered.Facts.{All-weaker}
+use Rattle.mount_model.specs.Order.{put_by, ordered_by}
 
 module _ {A : Type 0} (number : A → ℕ) where
   put_first : (a b : A) (bs : List A) → nat_le (number a) (number b) ≡ true → put_by number a (b ∷ bs) ≡ a ∷ b ∷ bs

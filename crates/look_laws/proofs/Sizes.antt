@@ -25,15 +25,15 @@ use Rattle.mount_sound.specs.Items.{HasItem}
 use Rattle.mount_sound.specs.Ledger.{entries_in}
 use Rattle.mount_sound.specs.There.{landed_entries}
 use Rattle.mount_sound.proofs.Facts.{take_less, writer_told}
-use Rattle.flow.specs.declared.names.Metadata.{Metadata}
+use Rattle.mount_model.specs.declared.names.Metadata.{Metadata}
 use Rattle.attr_flow.specs.Sizes.{cached_size, end_left_after}
 use Rattle.index_reader.specs.Runs.{runs_of}
-use Rattle.gathering.specs.Gathering.{Gathered, IsAdmissible}
-use Rattle.gathering.specs.Listing.{AreTruncsAt}
-use Rattle.gathering.specs.Moments.{HadTrunc, IsSoundAt, Moment, issued_by, landed, landed_by}
-use Rattle.gathering.specs.View.{WritersRise, changes_in, own_entries, writes_in}
-use Rattle.gathering.proofs.Facts.{in_a_room, in_tree, landed_at, landed_is_first, prefix_of, size_of_pieces, stands}
-use Rattle.gathering.proofs.OpenReaders.Viewing.{All-take, entries_split, in_order-take}
+use Rattle.reader_laws.specs.Gathering.{Gathered, IsAdmissible}
+use Rattle.reader_laws.specs.GatheringListing.{AreTruncsAt}
+use Rattle.reader_laws.specs.Moments.{HadTrunc, IsSoundAt, Moment, issued_by, landed, landed_by}
+use Rattle.reader_laws.specs.View.{WritersRise, changes_in, own_entries, writes_in}
+use Rattle.reader_laws.proofs.Gathered.Facts.{in_a_room, in_tree, landed_at, landed_is_first, prefix_of, size_of_pieces, stands}
+use Rattle.reader_laws.proofs.Gathered.OpenReaders.Viewing.{All-take, entries_split, in_order-take}
 use Rattle.reader_laws.proofs.Facts.{AreRunsOf, IsBounded, runs_are}
 use Rattle.look_laws.proofs.Cuts.{IsLeftOf}
 use Rattle.look_laws.proofs.Ends.{pieces_reach, reach, reach_within, reached}

@@ -6,11 +6,11 @@ use Rattle.std.proofs.lemmas.Bool.{cases_Bool, cond-true, cond-false}
 use Rattle.plfs_types.specs.declared.entries.ShareBytes.{ShareBytes}
 use Rattle.index_entry.specs.Entries.{logged}
 use Rattle.plain_file.proofs.Facts.{All-Among, Among}
-use Rattle.flow.specs.declared.names.Metadata.{Metadata}
+use Rattle.mount_model.specs.declared.names.Metadata.{Metadata}
 use Rattle.attr_flow.specs.Shares.{shares_left, with_share}
-use Rattle.gathering.specs.Gathering.{Gathered}
-use Rattle.gathering.specs.Moments.{Moment}
-use Rattle.gathering.specs.View.{WritersRise, own_entries}
+use Rattle.reader_laws.specs.Gathering.{Gathered}
+use Rattle.reader_laws.specs.Moments.{Moment}
+use Rattle.reader_laws.specs.View.{WritersRise, own_entries}
 use Rattle.look_laws.specs.Shares.{shares_seen}
 use Rattle.look_laws.proofs.Cuts.{IsLeftOf}
 use Rattle.look_laws.proofs.Leavings.{writer_left}

@@ -15,15 +15,15 @@ use Rattle.container_layout.specs.Paths.{openhosts}
 use Rattle.mount_model.specs.Step.{IsStep}
 use Rattle.mount_sound.specs.Owed.{IsLawful}
 use Rattle.turn_object.specs.Callers.{made_by}
-use Rattle.story.specs.Program.{done}
-use Rattle.flow.specs.declared.stuck.Stuck.{Stuck}
-use Rattle.flow.specs.Running.{Runs, unbroken}
-use Rattle.flow.specs.declared.names.Metadata.{Metadata}
-use Rattle.flow.specs.declared.names.OpenEntry.{OpenEntry}
-use Rattle.flow.specs.Listed.{file_in, or_trouble, told_by}
-use Rattle.flow.specs.Names.{meta_in, open_in, trunc_in}
-use Rattle.flow.specs.Order.{metadata_by_writer, truncs_by_stamp}
-use Rattle.flow.specs.Replies.{Tries, damage, failure, given, names_in, on_ok, room_in, trouble}
+use Rattle.mount_model.specs.Program.{done}
+use Rattle.mount_model.specs.declared.stuck.Stuck.{Stuck}
+use Rattle.mount_model.specs.Running.{Runs, unbroken}
+use Rattle.mount_model.specs.declared.names.Metadata.{Metadata}
+use Rattle.mount_model.specs.declared.names.OpenEntry.{OpenEntry}
+use Rattle.mount_model.specs.FlowListed.{file_in, or_trouble, told_by}
+use Rattle.mount_model.specs.Names.{meta_in, open_in, trunc_in}
+use Rattle.mount_model.specs.Order.{metadata_by_writer, truncs_by_stamp}
+use Rattle.mount_model.specs.FlowReplies.{Tries, damage, failure, given, names_in, on_ok, room_in, trouble}
 use Rattle.attr_flow.specs.declared.attr.Attr.{Attr}
 use Rattle.attr_flow.specs.declared.attr_flow.AttrOut.{AttrOut}
 use Rattle.attr_flow.specs.declared.attr_flow.AttrOut.TheVariants.{Cached, MustMerge}
@@ -31,16 +31,16 @@ use Rattle.attr_flow.specs.Asking.{attr_program, attributes, if_open, lists_meta
 use Rattle.attr_flow.specs.Attributes.{cached}
 use Rattle.attr_flow.specs.Listings.{has_entry, is_open, metadata_named, truncs_named}
 use Rattle.attr_flow.specs.Shares.{stored_in}
-use Rattle.gathering.specs.Gathering.{Gathered}
-use Rattle.gathering.specs.Listing.{AreTruncsAt}
-use Rattle.gathering.specs.Moments.{Grows, IsSoundAt, Moment, moment_after, next_moment}
-use Rattle.gathering.specs.Opening.{HasView, ListsTruncs}
-use Rattle.gathering.specs.Seen.{asked_in}
-use Rattle.gathering.specs.View.{own_entries}
+use Rattle.reader_laws.specs.Gathering.{Gathered}
+use Rattle.reader_laws.specs.GatheringListing.{AreTruncsAt}
+use Rattle.reader_laws.specs.Moments.{Grows, IsSoundAt, Moment, moment_after, next_moment}
+use Rattle.reader_laws.specs.GatheringOpening.{HasView, ListsTruncs}
+use Rattle.reader_laws.specs.Seen.{asked_in}
+use Rattle.reader_laws.specs.View.{own_entries}
 use Rattle.plain_file.specs.Size.{last_trunc}
-use Rattle.gathering.proofs.Facts.{folder_listed, found_any, grows_after, grows_trans, legal_first, legal_rest, moment-append, sound_after, stood_grows}
-use Rattle.gathering.proofs.Containers.Truncates.{truncs_listed}
-use Rattle.gathering.proofs.OpenReaders.Viewing.{tails_are}
+use Rattle.reader_laws.proofs.Gathered.Facts.{folder_listed, found_any, grows_after, grows_trans, legal_first, legal_rest, moment-append, sound_after, stood_grows}
+use Rattle.reader_laws.proofs.Gathered.Containers.Truncates.{truncs_listed}
+use Rattle.reader_laws.proofs.Gathered.OpenReaders.Viewing.{tails_are}
 use Rattle.reader_laws.proofs.Facts.{answered, calls_are, first_of}
 use Rattle.look_laws.specs.Looking.{HasToldOf, TellsOf}
 use Rattle.look_laws.proofs.Cuts.{IsLeftOf, cut_left}

@@ -17,12 +17,12 @@ use Rattle.plain_file.specs.Size.{is_later, last_trunc, later}
 use Rattle.plain_file.proofs.Facts.{Among}
 use Rattle.mount_model.specs.Paths.{Name, truncs}
 use Rattle.mount_sound.specs.Items.{HasItem}
-use Rattle.flow.specs.Names.{trunc_in}
-use Rattle.flow.specs.Order.{ordered_by, put_by, truncs_by_stamp}
-use Rattle.flow.proofs.Facts.{trunc_in-found, trunc_in-is}
-use Rattle.gathering.specs.Listing.{AreTruncsOf, IsTruncName, StampsRise}
-use Rattle.gathering.specs.Moments.{IsSoundAt, Moment}
-use Rattle.gathering.proofs.Facts.{any_found, found_any, is_among, named_file}
+use Rattle.mount_model.specs.Names.{trunc_in}
+use Rattle.mount_model.specs.Order.{ordered_by, put_by, truncs_by_stamp}
+use Rattle.mount_model.proofs.Flows.Facts.{trunc_in-found, trunc_in-is}
+use Rattle.reader_laws.specs.GatheringListing.{AreTruncsOf, IsTruncName, StampsRise}
+use Rattle.reader_laws.specs.Moments.{IsSoundAt, Moment}
+use Rattle.reader_laws.proofs.Gathered.Facts.{any_found, found_any, is_among, named_file}
 use Rattle.look_laws.proofs.Named.{AreOf, differ_so, name_of, told_by_name}
 use Rattle.look_laws.proofs.Orders.{Differ, Rise, among_ordered, differ_ordered, ordered_among, rise_ordered}
 

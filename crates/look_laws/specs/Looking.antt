@@ -7,11 +7,11 @@ use Rattle.mount_model.specs.Paths.{Name}
 use Rattle.mount_model.specs.History.{Event}
 use Rattle.attr_flow.specs.declared.attr.Attr.{Attr}
 use Rattle.attr_flow.specs.Shares.{stored_in}
-use Rattle.gathering.specs.Gathering.{Gathered}
-use Rattle.gathering.specs.Moments.{Moment, moment_after}
-use Rattle.gathering.specs.Opening.{HasView, ListsTruncs}
-use Rattle.gathering.specs.Seen.{asked_in, calls_of}
-use Rattle.gathering.specs.View.{changes_in}
+use Rattle.reader_laws.specs.Gathering.{Gathered}
+use Rattle.reader_laws.specs.Moments.{Moment, moment_after}
+use Rattle.reader_laws.specs.GatheringOpening.{HasView, ListsTruncs}
+use Rattle.reader_laws.specs.Seen.{asked_in, calls_of}
+use Rattle.reader_laws.specs.View.{changes_in}
 use Rattle.look_laws.specs.Shares.{shares_seen}
 
 -- What is told is that of the plain file of the cut and the truncates: its size, the bytes of each writer, and of all of them.

@@ -3,9 +3,9 @@ use Rattle.std.specs.Prelude.{List, [], ◌∷◌}
 use Rattle.plfs_types.specs.declared.entries.ShareBytes.{ShareBytes}
 use Rattle.index_entry.specs.Entries.{logged}
 use Rattle.attr_flow.specs.Shares.{with_share}
-use Rattle.gathering.specs.Gathering.{Gathered}
-use Rattle.gathering.specs.Moments.{Moment}
-use Rattle.gathering.specs.View.{own_entries}
+use Rattle.reader_laws.specs.Gathering.{Gathered}
+use Rattle.reader_laws.specs.Moments.{Moment}
+use Rattle.reader_laws.specs.View.{own_entries}
 
 -- how many bytes the first writes of each writer have, as many as the cut says; writers that have none are left out
 abbrev pub shares_seen : Moment → List Gathered → List ShareBytes

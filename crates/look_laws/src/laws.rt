@@ -3,11 +3,11 @@ ghost use Rattle.std.specs.Prelude.{ℕ, List, Ok};
 ghost use Rattle.mount_model.specs.Paths.{Name};
 ghost use Rattle.mount_model.specs.History.{Event};
 ghost use Rattle.mount_sound.specs.Owed.{IsLawful};
-ghost use Rattle.flow.specs.Running.{Runs};
+ghost use Rattle.mount_model.specs.Running.{Runs};
 ghost use Rattle.attr_flow.specs.declared.attr.Attr.{Attr};
 ghost use Rattle.attr_flow.specs.declared.attr_flow.AttrOut.TheVariants.{Cached};
 ghost use Rattle.attr_flow.specs.Asking.{attr_program};
-ghost use Rattle.gathering.specs.Moments.{Moment, IsSoundAt};
+ghost use Rattle.reader_laws.specs.Moments.{Moment, IsSoundAt};
 ghost use Rattle.look_laws.specs.Looking.{HasToldOf};
 
 /// A law: who looks at a file and tells of it by the names of its metadata, since nobody had it open, tells of one plain file,

@@ -8,7 +8,7 @@ use Rattle.plfs_types.specs.declared.entries.Entry.{Entry}
 use Rattle.plfs_types.specs.declared.limits.TheConstants.{MAX_LOG, MAX_SIZE, MAX_STAMP}
 use Rattle.index_entry.specs.Entries.{AreEntriesOf, MayFollow, logged, last_stamp}
 use Rattle.index_entry.specs.Spelling.{entry_in}
-use Rattle.flow.specs.Entries.{is_next}
+use Rattle.mount_model.specs.Entries.{is_next}
 use Rattle.migrate_core.specs.declared.entries.Tail.{Tail}
 use Rattle.migrate_core.specs.Entries.{IsTold, checked, longer, no_entries}
 

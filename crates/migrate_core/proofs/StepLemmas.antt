@@ -1,19 +1,19 @@
 -- What follows a writer waits until the writer is packed.
 use Rattle.std.proofs.Common.{◌≡◌, ℕ, true, refl, ap, ◌∙◌}
 use Rattle.std.specs.Prelude.{IfSome, Result, Some}
-use Rattle.flow.specs.Standing.{Standing, next_of, ready, replied, rest_of}
-use Rattle.flow.specs.Composed.{then_on, is_awaiting}
-use Rattle.flow.specs.declared.stuck.Stuck.{Stuck}
+use Rattle.mount_model.specs.Standing.{Standing, next_of, ready, replied, rest_of}
+use Rattle.mount_model.specs.Composed.{then_on, is_awaiting}
+use Rattle.mount_model.specs.declared.stuck.Stuck.{Stuck}
 use Rattle.mount_model.specs.declared.call.Call.{Call}
 use Rattle.mount_model.specs.declared.reply.Reply.{Reply}
-use Rattle.flow.specs.declared.names.Metadata.{Metadata}
-use Rattle.flow.specs.Replies.{Tries}
+use Rattle.mount_model.specs.declared.names.Metadata.{Metadata}
+use Rattle.mount_model.specs.FlowReplies.{Tries}
 use Rattle.migrate_core.specs.declared.migrated.Fate.{Fate}
 use Rattle.migrate_core.specs.declared.migrated.Migrated.{Migrated}
 use Rattle.migrate_core.specs.declared.steps.Step.{Step}
 use Rattle.migrate_core.specs.declared.steps.Step.TheVariants.{Measure, Read, Start, Putting, Put, Sync, Install}
 use Rattle.migrate_core.specs.Steps.{step_standing}
-use Rattle.flow.proofs.Composing.{again_then, next_then, reply_then, same_rest}
+use Rattle.mount_model.proofs.Flows.Composing.{again_then, next_then, reply_then, same_rest}
 
 abbrev Then : Type 0
 Then = Result Fate Stuck → Tries Migrated

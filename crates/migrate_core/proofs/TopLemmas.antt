@@ -1,11 +1,11 @@
 -- What the top shows, and what follows it.
 use Rattle.std.proofs.Common.{◌≡◌, ℕ, List, [], ◌∷◌, ap, sym, subst}
 use Rattle.std.specs.Prelude.{Option, Some, None, Result, Ok, Err}
-use Rattle.flow.specs.Standing.{Awaits, ready, replied, rest_of}
-use Rattle.flow.specs.declared.stuck.Stuck.{Stuck}
-use Rattle.flow.specs.Replies.{Tries, given, names_in, on_ok, trouble}
-use Rattle.flow.specs.Listed.{file_in}
-use Rattle.story.specs.Program.{done, ask}
+use Rattle.mount_model.specs.Standing.{Awaits, ready, replied, rest_of}
+use Rattle.mount_model.specs.declared.stuck.Stuck.{Stuck}
+use Rattle.mount_model.specs.FlowReplies.{Tries, given, names_in, on_ok, trouble}
+use Rattle.mount_model.specs.FlowListed.{file_in}
+use Rattle.mount_model.specs.Program.{done, ask}
 use Rattle.mount_model.specs.declared.reply.Reply.{Reply}
 use Rattle.mount_model.specs.Paths.{Name}
 use Rattle.index_reader.specs.declared.listing.Listing.{Listing}

@@ -1,12 +1,12 @@
 -- Which writers of a container are packed: those whose metadata stamp is above 0 and that have no packed index, by
 -- ascending id.
 use Rattle.std.specs.Prelude.{ℕ, ◌==◌, ◌&&◌, not, nat_lt, Bool, false, if◌then◌else◌, List, [], ◌∷◌, ◌++◌, Option, Some, None, Result, Ok}
-use Rattle.flow.specs.declared.stuck.Stuck.{Stuck}
+use Rattle.mount_model.specs.declared.stuck.Stuck.{Stuck}
 use Rattle.mount_model.specs.Paths.{Name, metadata}
-use Rattle.flow.specs.declared.names.Metadata.{Metadata}
-use Rattle.flow.specs.Names.{meta_in}
-use Rattle.flow.specs.Order.{metadata_by_writer}
-use Rattle.flow.specs.Listed.{known}
+use Rattle.mount_model.specs.declared.names.Metadata.{Metadata}
+use Rattle.mount_model.specs.Names.{meta_in}
+use Rattle.mount_model.specs.Order.{metadata_by_writer}
+use Rattle.mount_model.specs.FlowListed.{known}
 use Rattle.index_reader.specs.declared.listing.Dropping.{Dropping}
 use Rattle.index_reader.specs.Found.{item_of}
 

@@ -4,7 +4,7 @@ use Rattle.plfs_types.specs.declared.limits.TheConstants.{MAX_LOG}
 use Rattle.plfs_types.specs.declared.entries.Entry.{Entry}
 use Rattle.index_entry.specs.Entries.{AreEntriesOf, logged, last_stamp}
 use Rattle.index_entry.specs.Spelling.{entry_in}
-use Rattle.flow.specs.Entries.{is_next}
+use Rattle.mount_model.specs.Entries.{is_next}
 use Rattle.migrate_core.specs.declared.entries.Tail.{Tail}
 
 abbrev pub no_entries : ℕ → Tail

@@ -1,7 +1,7 @@
 -- Where the machine of a migration stands in its program.
 use Rattle.std.specs.Prelude.{ℕ, Result}
-use Rattle.flow.specs.declared.stuck.Stuck.{Stuck}
-use Rattle.flow.specs.Standing.{Standing}
+use Rattle.mount_model.specs.declared.stuck.Stuck.{Stuck}
+use Rattle.mount_model.specs.Standing.{Standing}
 use Rattle.mount_model.specs.declared.call.Call.{Call}
 use Rattle.mount_model.specs.declared.reply.Reply.{Reply}
 use Rattle.migrate_core.specs.declared.migrated.Migrated.{Migrated}

@@ -1,14 +1,14 @@
 -- The calls of a migration: Find, Look Top, List of the metadata, List of each folder of droppings that the top shows;
 -- then, by ascending id, those of each writer that is to be packed.
 use Rattle.std.specs.Prelude.{ℕ, List, [], ◌∷◌, Result, Ok}
-use Rattle.flow.specs.declared.stuck.Stuck.{Stuck}
-use Rattle.story.specs.Program.{done, ask, followed_by}
+use Rattle.mount_model.specs.declared.stuck.Stuck.{Stuck}
+use Rattle.mount_model.specs.Program.{done, ask, followed_by}
 use Rattle.mount_model.specs.declared.call.Call.TheVariants.{Find, Look}
 use Rattle.mount_model.specs.declared.call.Look.TheVariants.{List as ListFolder, Top}
 use Rattle.mount_model.specs.Paths.{Name, metadata}
-use Rattle.flow.specs.declared.names.Metadata.{Metadata}
-use Rattle.flow.specs.Listed.{told_by, file_in}
-use Rattle.flow.specs.Replies.{Tries, given, on_ok, room_in, failure, names_in, trouble}
+use Rattle.mount_model.specs.declared.names.Metadata.{Metadata}
+use Rattle.mount_model.specs.FlowListed.{told_by, file_in}
+use Rattle.mount_model.specs.FlowReplies.{Tries, given, on_ok, room_in, failure, names_in, trouble}
 use Rattle.index_reader.specs.declared.listing.Listing.{Listing}
 use Rattle.index_reader.specs.Opening.{no_flat, scans}
 use Rattle.index_reader.specs.Scanning.{nothing_found}

@@ -1,12 +1,12 @@
 -- Where the stages of a migration stand in its program.
 use Rattle.std.specs.Prelude.{◌≡◌, ℕ, ◌+◌, ◌*◌, ◌^◌, Bool, true, length, Result, Err}
-use Rattle.flow.specs.declared.stuck.Stuck.{Stuck}
-use Rattle.story.specs.Program.{done, followed_by}
-use Rattle.flow.specs.Standing.{Standing, ready, rest_of}
-use Rattle.flow.specs.Composed.{then_on, is_awaiting}
+use Rattle.mount_model.specs.declared.stuck.Stuck.{Stuck}
+use Rattle.mount_model.specs.Program.{done, followed_by}
+use Rattle.mount_model.specs.Standing.{Standing, ready, rest_of}
+use Rattle.mount_model.specs.Composed.{then_on, is_awaiting}
 use Rattle.mount_model.specs.declared.call.Call.{Call}
 use Rattle.mount_model.specs.declared.reply.Reply.{Reply}
-use Rattle.flow.specs.Replies.{Tries, on_ok}
+use Rattle.mount_model.specs.FlowReplies.{Tries, on_ok}
 use Rattle.index_reader.specs.declared.opening.AfterOpen.{AfterOpen}
 use Rattle.index_reader.specs.declared.opening.AfterOpen.TheVariants as after
 use Rattle.index_reader.specs.OpenStages.{after_open, after_open_calls, open_calls_left, open_rest, open_standing}

@@ -1,11 +1,11 @@
 -- Where the steps for one writer stand in its calls.
 use Rattle.std.specs.Prelude.{ℕ, ◌+◌, ◌^◌, Result}
-use Rattle.flow.specs.declared.stuck.Stuck.{Stuck}
-use Rattle.flow.specs.Standing.{Standing, asked, ready}
-use Rattle.story.specs.Program.{done}
+use Rattle.mount_model.specs.declared.stuck.Stuck.{Stuck}
+use Rattle.mount_model.specs.Standing.{Standing, asked, ready}
+use Rattle.mount_model.specs.Program.{done}
 use Rattle.mount_model.specs.declared.call.Call.{Call}
 use Rattle.mount_model.specs.declared.reply.Reply.{Reply}
-use Rattle.flow.specs.declared.names.Metadata.{Metadata}
+use Rattle.mount_model.specs.declared.names.Metadata.{Metadata}
 use Rattle.migrate_core.specs.declared.migrated.Fate.{Fate}
 use Rattle.migrate_core.specs.declared.steps.Step.{Step}
 use Rattle.migrate_core.specs.declared.steps.Step.TheVariants.{Measure, Read, Start, Putting, Put, Sync, Install}

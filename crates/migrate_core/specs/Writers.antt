@@ -4,14 +4,14 @@ use Rattle.std.specs.Prelude.{ℕ, zero, suc, ◌-◌, ◌*◌, ◌/◌, ◌==�
 use Rattle.plfs_types.specs.declared.names.Path.{Path}
 use Rattle.plfs_types.specs.declared.entries.Entry.{Entry}
 use Rattle.plfs_types.specs.declared.limits.TheConstants.{MAX_PACKED}
-use Rattle.story.specs.Program.{done, ask}
+use Rattle.mount_model.specs.Program.{done, ask}
 use Rattle.mount_model.specs.declared.call.Call.TheVariants.{Look, StartPack, PutFlat, SyncFlat, InstallFlat}
 use Rattle.mount_model.specs.declared.call.Look.TheVariants.{Length, Read}
 use Rattle.mount_model.specs.declared.reply.Reply.{Reply}
 use Rattle.mount_model.specs.declared.reply.Reply.TheVariants.{Done, Started}
 use Rattle.mount_model.specs.Paths.{index_path}
-use Rattle.flow.specs.declared.names.Metadata.{Metadata}
-use Rattle.flow.specs.Replies.{Tries, given, bytes_in, damage, trouble, failure}
+use Rattle.mount_model.specs.declared.names.Metadata.{Metadata}
+use Rattle.mount_model.specs.FlowReplies.{Tries, given, bytes_in, damage, trouble, failure}
 use Rattle.migrate_core.specs.declared.entries.Tail.{Tail}
 use Rattle.migrate_core.specs.declared.migrated.Packed.{Packed}
 use Rattle.migrate_core.specs.declared.migrated.Fate.{Fate}
@@ -19,7 +19,7 @@ use Rattle.migrate_core.specs.declared.migrated.Fate.TheVariants as fate
 use Rattle.migrate_core.specs.Entries.{no_entries, checked}
 use Rattle.migrate_core.specs.Longest.{packing, run_count}
 use Rattle.index_reader.specs.Replies.{number_in}
-use Rattle.flow.specs.Entries.{reads_of, next_read}
+use Rattle.mount_model.specs.Entries.{reads_of, next_read}
 
 -- the number of a flattening that was begun
 abbrev pub flat_in : Reply → Option ℕ

@@ -1,16 +1,16 @@
 //! Which writers of a container are packed.
 ghost use Rattle.std.specs.Prelude.{◌≡◌, ◌<◌, [], Option, IfOk};
 ghost use Rattle.index_reader.specs.Listing.{AreByWriter};
-ghost use Rattle.flow.specs.Listed.{told_by};
+ghost use Rattle.mount_model.specs.FlowListed.{told_by};
 ghost use Rattle.mount_model.specs.Paths as paths;
 ghost use Rattle.migrate_core.specs.Chosen.{chosen as chosen_of, chosen_behind, is_again as is_again_of, is_open_to as is_open_to_of, metas_named};
 
 use container_layout::metadata;
-use flow::{
-    Metadata, MetadataList, Stuck, damage, file_in, meta_in, metadata_by_writer, names_in, trouble,
-};
 use index_reader::{Dropping, dropping_of};
-use mount_model::Reply;
+use mount_model::{
+    Metadata, MetadataList, Reply, Stuck, damage, file_in, meta_in, metadata_by_writer, names_in,
+    trouble,
+};
 use plfs_types::{Name, NoMemory};
 use std::alloc::Global;
 

@@ -1,9 +1,9 @@
 //! The entries of an index dropping, which are checked in order.
 ghost use Rattle.std.specs.Prelude.{◌≡◌, ◌+◌, ◌<◌, ◌^◌, true, OnOk, IfOk};
-ghost use Rattle.flow.specs.Entries.{is_next as next_of};
+ghost use Rattle.mount_model.specs.Entries.{is_next as next_of};
 ghost use Rattle.migrate_core.specs.Entries.{no_entries, longer as longer_of, checked as checked_of, IsTold};
 
-use flow::{first_entry, is_next, past_first};
+use mount_model::{first_entry, is_next, past_first};
 use plfs_types::{Cover, Entry, EntryList, NoMemory};
 use std::alloc::Global;
 use std::marker::Model;

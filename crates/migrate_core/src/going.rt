@@ -1,14 +1,14 @@
 //! The stages of a migration.
 ghost use Rattle.std.specs.Prelude.{◌≡◌, ◌≤◌, ◌<◌, ◌+◌, ◌*◌, ◌^◌, length, true, Result, Some, IfOk, IfSome};
-ghost use Rattle.flow.specs.Composed.{then_on, is_awaiting};
-ghost use Rattle.flow.specs.Standing.{ready, next_of, rest_of, replied, Awaits};
+ghost use Rattle.mount_model.specs.Composed.{then_on, is_awaiting};
+ghost use Rattle.mount_model.specs.Standing.{ready, next_of, rest_of, replied, Awaits};
 ghost use Rattle.index_reader.specs.Listing.{AreByWriter};
 ghost use Rattle.index_reader.specs.OpenStages.{after_open, after_open_calls, open_calls_left, open_rest, open_standing, IsAfterOpen};
 ghost use Rattle.index_reader.specs.declared.listing.Listing.{Listing as Listed};
-ghost use Rattle.flow.specs.declared.stuck.Stuck.{Stuck as Trouble};
-ghost use Rattle.flow.specs.Replies.{Tries, on_ok};
+ghost use Rattle.mount_model.specs.declared.stuck.Stuck.{Stuck as Trouble};
+ghost use Rattle.mount_model.specs.FlowReplies.{Tries, on_ok};
 ghost use Rattle.mount_model.specs.Step.{OwedBy};
-ghost use Rattle.story.specs.Program.{followed_by};
+ghost use Rattle.mount_model.specs.Program.{followed_by};
 ghost use Rattle.migrate_core.specs.declared.migrated.Migrated.{Migrated as Done};
 ghost use Rattle.migrate_core.specs.Counting.{noted as noted_of, nothing as nothing_of};
 ghost use Rattle.migrate_core.specs.Migrating.{migrate_program, migrate_at_program, migrates, migrates_listed, scans_then};
@@ -22,9 +22,8 @@ use crate::stage::{Stage, Underway};
 use crate::steps::Step;
 use crate::writers::After;
 use container_layout::metadata;
-use flow::{Flow, Metadata, MetadataList, Stuck, failure, room_in};
 use index_reader::{AfterOpen, Listing, OpenRead};
-use mount_model::{Call, Look, Reply};
+use mount_model::{Call, Flow, Look, Metadata, MetadataList, Reply, Stuck, failure, room_in};
 use plfs_types::{NoMemory, Queue};
 use std::alloc::Global;
 

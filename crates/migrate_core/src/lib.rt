@@ -2,7 +2,7 @@
 //! few runs of it.
 //!
 //! The crate owns the machine that does so: which calls it makes for each such writer, in which order, and what comes of
-//! the replies. It stands on `flow`, on the listing of `index_reader` and on the form of `index_pack`, and
+//! the replies. It stands on `mount_model`, on the listing of `index_reader` and on the form of `index_pack`, and
 //! needs no mount.
 #![tactic(auto)]
 

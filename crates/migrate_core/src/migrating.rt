@@ -3,8 +3,7 @@ ghost use Rattle.migrate_core.specs.Stages.{IsUnderway};
 
 use crate::migrated::Migrated;
 use crate::stage::Stage;
-use flow::{Flow, Stuck};
-use mount_model::{Call, Reply};
+use mount_model::{Call, Flow, Reply, Stuck};
 use plfs_types::{LogicalName, NoMemory};
 use std::alloc::Global;
 use std::mem;
@@ -28,7 +27,7 @@ pub struct MigrateFlow {
 
 impl MigrateFlow {
     ghost use Rattle.std.specs.Prelude.{◌≡◌};
-    ghost use Rattle.flow.specs.Standing.{ready};
+    ghost use Rattle.mount_model.specs.Standing.{ready};
     ghost use Rattle.migrate_core.specs.Migrating.{migrate_program};
     ghost use Rattle.migrate_core.specs.MigrateStages.{migrate_standing};
 

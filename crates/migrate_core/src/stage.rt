@@ -4,8 +4,8 @@ ghost use Rattle.std.specs.Prelude.{◌+◌, ◌<◌, ◌^◌, length};
 use crate::migrated::{Migrated, Tally};
 use crate::shown::Shown;
 use crate::steps::Step;
-use flow::{Metadata, MetadataList, Stuck};
 use index_reader::OpenRead;
+use mount_model::{Metadata, MetadataList, Stuck};
 use plfs_types::{LogicalName, Queue};
 
 #[derive(Drop)]

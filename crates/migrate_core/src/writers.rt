@@ -1,12 +1,12 @@
 //! The packing of one writer.
 ghost use Rattle.std.specs.Prelude.{◌≡◌, ◌≤◌, ◌<◌, ◌+◌, ◌/◌, ◌^◌, ℕ, Some, Ok, IfOk, IfSome};
 ghost use Rattle.plfs_types.specs.declared.limits.TheConstants.{MAX_PACKED};
-ghost use Rattle.flow.specs.Standing.{ready, next_of, rest_of, replied};
-ghost use Rattle.flow.specs.declared.names.Metadata.{Metadata as Left};
-ghost use Rattle.flow.specs.Replies.{Tries};
+ghost use Rattle.mount_model.specs.Standing.{ready, next_of, rest_of, replied};
+ghost use Rattle.mount_model.specs.declared.names.Metadata.{Metadata as Left};
+ghost use Rattle.mount_model.specs.FlowReplies.{Tries};
 ghost use Rattle.mount_model.specs.Paths.{index_path as path_of_index};
 ghost use Rattle.mount_model.specs.Step.{OwedBy};
-ghost use Rattle.story.specs.Program.{done};
+ghost use Rattle.mount_model.specs.Program.{done};
 ghost use Rattle.migrate_core.specs.declared.migrated.Fate.{Fate as Became};
 ghost use Rattle.migrate_core.specs.declared.migrated.Fate.TheVariants.{Packs};
 ghost use Rattle.migrate_core.specs.Steps.{step_standing, after_standing, step_calls, after_calls};
@@ -18,8 +18,9 @@ use crate::migrated::{Fate, Packed};
 use crate::packing::pack_read;
 use crate::steps::{Reads, Step};
 use container_layout::{Item, print};
-use flow::{Metadata, Stuck, bytes_in, damage, failure, next_read, trouble};
-use mount_model::{Call, Look, Reply};
+use mount_model::{
+    Call, Look, Metadata, Reply, Stuck, bytes_in, damage, failure, next_read, trouble,
+};
 use plfs_types::{MAX_PACKED, NoMemory, Path};
 use std::alloc::Global;
 use store_api::Answer;

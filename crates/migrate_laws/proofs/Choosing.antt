@@ -7,12 +7,12 @@ use Rattle.std.proofs.lemmas.Bool.Decides.{nat_tests}
 use Rattle.store_api.specs.Names.{same_name}
 use Rattle.store_laws.specs.Differ.{is_listed}
 use Rattle.store_laws.proofs.Facts.{name_eq}
-use Rattle.flow.specs.declared.names.Metadata.{Metadata}
-use Rattle.flow.specs.declared.stuck.Stuck.{Stuck}
-use Rattle.flow.specs.Listed.{file_in}
-use Rattle.flow.specs.Names.{meta_in}
-use Rattle.flow.specs.Order.{metadata_by_writer, put_by}
-use Rattle.flow.specs.Replies.{damage}
+use Rattle.mount_model.specs.declared.names.Metadata.{Metadata}
+use Rattle.mount_model.specs.declared.stuck.Stuck.{Stuck}
+use Rattle.mount_model.specs.FlowListed.{file_in}
+use Rattle.mount_model.specs.Names.{meta_in}
+use Rattle.mount_model.specs.Order.{metadata_by_writer, put_by}
+use Rattle.mount_model.specs.FlowReplies.{damage}
 use Rattle.mount_model.specs.Paths.{Name, metadata}
 use Rattle.index_reader.specs.declared.listing.Dropping.{Dropping}
 use Rattle.index_reader.specs.Found.{item_of}

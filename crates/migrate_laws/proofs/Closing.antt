@@ -5,7 +5,7 @@ use Rattle.container_layout.specs.declared.items.Item.TheVariants.{Meta, Packed}
 use Rattle.plfs_types.specs.declared.limits.TheConstants.{MAX_PACKED}
 use Rattle.store_api.specs.declared.tree.Room.{Room}
 use Rattle.store_api.specs.declared.tree.Tree.{Tree}
-use Rattle.flow.specs.declared.names.Metadata.{Metadata}
+use Rattle.mount_model.specs.declared.names.Metadata.{Metadata}
 use Rattle.mount_model.specs.declared.row.Making.TheVariants as making
 use Rattle.mount_model.specs.State.{State}
 use Rattle.mount_sound.specs.Dropping.{IsWriter}

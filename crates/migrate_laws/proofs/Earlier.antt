@@ -18,11 +18,11 @@ use Rattle.store_laws.specs.Differ.{is_listed}
 use Rattle.store_laws.specs.Files.{file_at}
 use Rattle.store_laws.specs.There.{ListsFolder}
 use Rattle.store_laws.proofs.Facts.{name_eq}
-use Rattle.flow.specs.declared.stuck.Stuck.{Stuck}
-use Rattle.flow.specs.Running.{unbroken}
-use Rattle.flow.specs.Replies.{Tries, damage, given, names_in, on_ok, trouble}
-use Rattle.flow.specs.Listed.{file_in}
-use Rattle.story.specs.Program.{done}
+use Rattle.mount_model.specs.declared.stuck.Stuck.{Stuck}
+use Rattle.mount_model.specs.Running.{unbroken}
+use Rattle.mount_model.specs.FlowReplies.{Tries, damage, given, names_in, on_ok, trouble}
+use Rattle.mount_model.specs.FlowListed.{file_in}
+use Rattle.mount_model.specs.Program.{done}
 use Rattle.mount_model.specs.declared.call.Call.TheVariants.{Look}
 use Rattle.mount_model.specs.declared.call.Look.TheVariants.{List as ListFolder, Top}
 use Rattle.mount_model.specs.declared.reply.Reply.{Reply}
@@ -36,7 +36,7 @@ use Rattle.mount_sound.specs.Ledger.{Ledger}
 use Rattle.mount_sound.specs.Owed.{May, StandsInRoom}
 use Rattle.mount_sound.specs.Sound.{IsSoundFor}
 use Rattle.mount_sound.proofs.Facts.{item_later, some_room}
-use Rattle.holding_laws.proofs.Facts.{file_named, folder_listed}
+use Rattle.recovery_laws.proofs.Holds.Facts.{file_named, folder_listed}
 use Rattle.recovery_laws.proofs.Facts.{Stays}
 use Rattle.index_reader.specs.declared.listing.Dropping.{Dropping}
 use Rattle.index_reader.specs.declared.listing.Listing.{Listing}

@@ -15,9 +15,9 @@ use Rattle.mount_sound.specs.Ledger.{Ledger}
 use Rattle.mount_sound.specs.Owed.{IsLawful, May}
 use Rattle.mount_sound.specs.Sound.{IsSoundFor}
 use Rattle.mount_sound.proofs.Facts.{history_keeps, later, lawful_first, lawful_rest}
-use Rattle.flow.specs.Running.{Runs, unbroken}
-use Rattle.flow.proofs.Facts.{runs_done, runs_in_two, runs_next}
-use Rattle.story.specs.Program.{Program, ask, done, followed_by}
+use Rattle.mount_model.specs.Running.{Runs, unbroken}
+use Rattle.mount_model.proofs.Flows.Facts.{runs_done, runs_in_two, runs_next}
+use Rattle.mount_model.specs.Program.{Program, ask, done, followed_by}
 use Rattle.recovery_laws.proofs.Facts.{Stays}
 use Rattle.index_reader.proofs.Facts.{IsLook, OnlyLooks as AreLooks}
 use Rattle.migrate_laws.specs.Moments.{Calls, HasLooked, IsLooking, OnlyLooks}

@@ -7,8 +7,8 @@ use Rattle.store_api.specs.Step.{find_room}
 use Rattle.store_laws.specs.Says.{FindTells}
 use Rattle.store_laws.specs.Tells.{Tells}
 use Rattle.store_laws.proofs.Facts.{acts_told, find_tells, look_answered}
-use Rattle.flow.specs.Replies.{room_in}
-use Rattle.flow.specs.Running.{unbroken}
+use Rattle.mount_model.specs.FlowReplies.{room_in}
+use Rattle.mount_model.specs.Running.{unbroken}
 use Rattle.mount_model.specs.declared.call.Call.TheVariants.{Find}
 use Rattle.mount_model.specs.declared.reply.Reply.{Reply}
 use Rattle.mount_model.specs.declared.reply.Reply.TheVariants.{Room}

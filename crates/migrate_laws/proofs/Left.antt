@@ -18,7 +18,7 @@ use Rattle.mount_sound.specs.Owed.{StandsInRoom}
 use Rattle.mount_sound.specs.Sound.{IsSoundFor}
 use Rattle.mount_sound.specs.There.{landed_entries}
 use Rattle.mount_sound.proofs.Facts.{KeepsEntries, accounted, in_later, in_order_take, its_writers, later, logged_take, room_keeps, stay_later, writer_told}
-use Rattle.flow.specs.declared.names.Metadata.{Metadata}
+use Rattle.mount_model.specs.declared.names.Metadata.{Metadata}
 use Rattle.recovery_laws.proofs.Facts.{Stays}
 
 -- ---- the metadata dropping

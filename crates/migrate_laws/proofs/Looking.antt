@@ -17,7 +17,7 @@ use Rattle.store_laws.specs.Tells.{Tells}
 use Rattle.store_laws.proofs.Facts.{acts_told, length_tells, look_answered, read_tells}
 use Rattle.container_layout.specs.declared.items.Item.TheVariants.{Meta}
 use Rattle.container_layout.specs.Paths.{IsIn, path_of}
-use Rattle.flow.specs.Running.{unbroken}
+use Rattle.mount_model.specs.Running.{unbroken}
 use Rattle.mount_model.specs.declared.call.Call.TheVariants.{Look}
 use Rattle.mount_model.specs.declared.call.Look.{Look as Sight}
 use Rattle.mount_model.specs.declared.call.Look.TheVariants.{Length, List as ListFolder, Read}
@@ -34,11 +34,11 @@ use Rattle.mount_sound.specs.Ledger.{Ledger}
 use Rattle.mount_sound.specs.Owed.{StandsInRoom}
 use Rattle.mount_sound.specs.Sound.{IsSoundFor}
 use Rattle.mount_sound.proofs.Facts.{one_tree, some_room}
-use Rattle.holding_laws.proofs.Facts.{file_named, folder_listed}
-use Rattle.flow.specs.declared.names.Metadata.{Metadata}
-use Rattle.flow.specs.Names.{meta_in}
-use Rattle.flow.specs.Replies.{bytes_in, names_in}
-use Rattle.flow.proofs.Facts.{meta_in-is}
+use Rattle.recovery_laws.proofs.Holds.Facts.{file_named, folder_listed}
+use Rattle.mount_model.specs.declared.names.Metadata.{Metadata}
+use Rattle.mount_model.specs.Names.{meta_in}
+use Rattle.mount_model.specs.FlowReplies.{bytes_in, names_in}
+use Rattle.mount_model.proofs.Flows.Facts.{meta_in-is}
 use Rattle.index_reader.specs.Replies.{number_in}
 use Rattle.migrate_laws.specs.Closed.{HasClosed, WriterOf}
 use Rattle.migrate_laws.proofs.Left.{IsLeft}

@@ -8,16 +8,16 @@ use Rattle.store_api.specs.declared.step.Answer.TheVariants.{Names}
 use Rattle.store_api.specs.Names.{same_name}
 use Rattle.store_laws.specs.Differ.{is_listed}
 use Rattle.store_laws.proofs.Facts.{name_refl}
-use Rattle.flow.specs.declared.stuck.Stuck.{Stuck}
-use Rattle.flow.specs.Running.{asking, unbroken}
-use Rattle.story.specs.Program.{Program, done, ask, followed_by}
-use Rattle.story.specs.Safe.{IsSafe}
-use Rattle.flow.specs.declared.names.Metadata.{Metadata}
-use Rattle.flow.specs.Listed.{file_in, or_trouble, told_by}
-use Rattle.flow.specs.Names.{meta_in}
-use Rattle.flow.specs.Order.{metadata_by_writer, put_by}
-use Rattle.flow.specs.Replies.{Tries, damage, failure, given, names_in, on_ok, room_in, trouble}
-use Rattle.flow.proofs.Facts.{meta_in-found}
+use Rattle.mount_model.specs.declared.stuck.Stuck.{Stuck}
+use Rattle.mount_model.specs.Running.{asking, unbroken}
+use Rattle.mount_model.specs.Program.{Program, done, ask, followed_by}
+use Rattle.mount_model.specs.Safe.{IsSafe}
+use Rattle.mount_model.specs.declared.names.Metadata.{Metadata}
+use Rattle.mount_model.specs.FlowListed.{file_in, or_trouble, told_by}
+use Rattle.mount_model.specs.Names.{meta_in}
+use Rattle.mount_model.specs.Order.{metadata_by_writer, put_by}
+use Rattle.mount_model.specs.FlowReplies.{Tries, damage, failure, given, names_in, on_ok, room_in, trouble}
+use Rattle.mount_model.proofs.Flows.Facts.{meta_in-found}
 use Rattle.mount_model.specs.declared.call.Call.{Call}
 use Rattle.mount_model.specs.declared.call.Call.TheVariants.{Find, Look}
 use Rattle.mount_model.specs.declared.call.Look.TheVariants.{List as ListFolder, Top}
@@ -28,7 +28,7 @@ use Rattle.mount_model.specs.State.{State}
 use Rattle.mount_model.specs.Step.{IsStep}
 use Rattle.mount_sound.specs.Owed.{Permits}
 use Rattle.mount_sound.specs.Sound.{IsFine}
-use Rattle.holding_laws.proofs.Facts.{IsFree, fine_lasts, may_free, safe_ask, safe_free}
+use Rattle.recovery_laws.proofs.Holds.Facts.{IsFree, fine_lasts, may_free, safe_ask, safe_free}
 use Rattle.recovery_laws.proofs.Facts.{Cleanly, Stays, asks_safe, cleanly_so, cleanly_stays, cleanly_then, safe_given, safe_on_ok}
 use Rattle.index_reader.specs.declared.listing.Dropping.{Dropping}
 use Rattle.index_reader.specs.declared.listing.Listing.{Listing}

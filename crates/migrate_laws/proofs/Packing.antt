@@ -12,11 +12,11 @@ use Rattle.store_laws.specs.Changes.{Replaced}
 use Rattle.store_laws.specs.Files.{file_at}
 use Rattle.store_laws.specs.Tells.{made}
 use Rattle.store_laws.proofs.Facts.{acts_told, changed_room, replace_told}
-use Rattle.flow.specs.declared.stuck.Stuck.{Stuck}
-use Rattle.flow.specs.Running.{unbroken}
-use Rattle.story.specs.Program.{done}
-use Rattle.flow.specs.declared.names.Metadata.{Metadata}
-use Rattle.flow.specs.Replies.{Tries, bytes_in, damage, failure, given, trouble}
+use Rattle.mount_model.specs.declared.stuck.Stuck.{Stuck}
+use Rattle.mount_model.specs.Running.{unbroken}
+use Rattle.mount_model.specs.Program.{done}
+use Rattle.mount_model.specs.declared.names.Metadata.{Metadata}
+use Rattle.mount_model.specs.FlowReplies.{Tries, bytes_in, damage, failure, given, trouble}
 use Rattle.mount_model.specs.declared.call.Call.{Call}
 use Rattle.mount_model.specs.declared.call.Call.TheVariants.{InstallFlat, Look, PutFlat, StartPack, SyncFlat}
 use Rattle.mount_model.specs.declared.call.Look.TheVariants.{Length, Read}
@@ -35,7 +35,7 @@ use Rattle.mount_model.specs.State.{State, Table}
 use Rattle.mount_model.specs.Step.{IsStep}
 use Rattle.mount_model.specs.Table.{flattening_at, flattening_of, with_flattening}
 use Rattle.mount_model.proofs.Facts.{IsUnderway, found_before-push, found_before-with_flattening, is_underway, match_cases, next_not_flattened, on_flattening, step_flattened}
-use Rattle.mount_shape.specs.Named.{FitsNames}
+use Rattle.mount_sound.specs.Named.{FitsNames}
 use Rattle.mount_sound.specs.Items.{HasItem}
 use Rattle.mount_sound.specs.Ledger.{Ledger}
 use Rattle.mount_sound.specs.Owed.{May, StandsInRoom}
@@ -46,7 +46,7 @@ use Rattle.migrate_core.specs.Entries.{checked, no_entries}
 use Rattle.migrate_core.specs.Longest.{packing}
 use Rattle.migrate_core.specs.Words.{Fate, Tail, is_packed, passed_over}
 use Rattle.migrate_core.specs.Writers.{counts_of, flat_in, if_done, installs, or_damage, puts, reads, reads_left, sized, starts, syncs, writer_program}
-use Rattle.flow.specs.Entries.{next_read, reads_of}
+use Rattle.mount_model.specs.Entries.{next_read, reads_of}
 use Rattle.index_reader.specs.Replies.{number_in}
 use Rattle.migrate_laws.proofs.Ends.{Ends, ends_ask, ends_done}
 use Rattle.migrate_laws.proofs.Left.{IsLeft, IsWhole, left_stays, whole_stays}

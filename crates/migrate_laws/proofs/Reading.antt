@@ -13,9 +13,9 @@ use Rattle.plfs_types.specs.declared.limits.TheConstants.{MAX_PACKED}
 use Rattle.store_api.specs.declared.tree.Room.{Room}
 use Rattle.store_api.specs.declared.tree.Tree.{Tree}
 use Rattle.store_api.specs.declared.step.Answer.TheVariants.{Bytes, Number}
-use Rattle.flow.specs.Running.{unbroken}
-use Rattle.flow.specs.declared.names.Metadata.{Metadata}
-use Rattle.flow.specs.Entries.{is_next}
+use Rattle.mount_model.specs.Running.{unbroken}
+use Rattle.mount_model.specs.declared.names.Metadata.{Metadata}
+use Rattle.mount_model.specs.Entries.{is_next}
 use Rattle.mount_model.specs.declared.call.Call.TheVariants.{Look}
 use Rattle.mount_model.specs.declared.call.Look.TheVariants.{Length, Read}
 use Rattle.mount_model.specs.declared.reply.Reply.TheVariants.{Looked}
@@ -30,7 +30,7 @@ use Rattle.mount_sound.proofs.Facts.{is_index, one_tree, some_room}
 use Rattle.recovery_laws.proofs.Facts.{Stays}
 use Rattle.migrate_core.specs.Entries.{checked, longer, no_entries}
 use Rattle.migrate_core.specs.Words.{Tail}
-use Rattle.flow.specs.Entries.{next_read}
+use Rattle.mount_model.specs.Entries.{next_read}
 use Rattle.migrate_laws.proofs.Left.{IsLeft, IsWhole, IsWholeIn, whole_now, whole_stays}
 use Rattle.migrate_laws.proofs.Looking.{length_told, read_told}
 

@@ -3,8 +3,8 @@ use Rattle.std.proofs.Common.{◌≡◌, ◌≤◌, ◌<◌, ◌==◌, ℕ, nat_
 use Rattle.std.specs.Prelude.{not, ◌&&◌, if◌then◌else◌}
 use Rattle.std.specs.List.{AllByRecursion}
 use Rattle.std.proofs.lemmas.Bool.Decides.{nat_tests}
-use Rattle.flow.specs.declared.names.Metadata.{Metadata}
-use Rattle.flow.specs.Order.{metadata_by_writer, put_by}
+use Rattle.mount_model.specs.declared.names.Metadata.{Metadata}
+use Rattle.mount_model.specs.Order.{metadata_by_writer, put_by}
 use Rattle.index_reader.specs.declared.listing.Dropping.{Dropping}
 use Rattle.migrate_core.specs.Chosen.{chosen, chosen_behind, is_again, is_open_to}
 use Rattle.migrate_laws.proofs.Migrating.{all_push, all_put}

@@ -5,12 +5,12 @@ use Rattle.std.specs.List.{AllByRecursion, Contains}
 use Rattle.std.proofs.lemmas.List.Elements.{All-contains, All-from_recursion}
 use Rattle.turn_object.proofs.Facts.{state_append}
 use Rattle.store_api.specs.declared.step.Answer.TheVariants.{Names}
-use Rattle.flow.specs.declared.names.Metadata.{Metadata}
-use Rattle.flow.specs.declared.stuck.Stuck.{Stuck}
-use Rattle.flow.specs.Listed.{file_in, told_by}
-use Rattle.flow.specs.Replies.{Tries, failure, given, names_in, on_ok, room_in, trouble}
-use Rattle.flow.specs.Running.{Runs, unbroken}
-use Rattle.flow.proofs.Facts.{runs_in_two}
+use Rattle.mount_model.specs.declared.names.Metadata.{Metadata}
+use Rattle.mount_model.specs.declared.stuck.Stuck.{Stuck}
+use Rattle.mount_model.specs.FlowListed.{file_in, told_by}
+use Rattle.mount_model.specs.FlowReplies.{Tries, failure, given, names_in, on_ok, room_in, trouble}
+use Rattle.mount_model.specs.Running.{Runs, unbroken}
+use Rattle.mount_model.proofs.Flows.Facts.{runs_in_two}
 use Rattle.mount_model.specs.declared.call.Ask.{Ask}
 use Rattle.mount_model.specs.declared.call.Call.{Call}
 use Rattle.mount_model.specs.declared.call.Call.TheVariants.{Find, Look}

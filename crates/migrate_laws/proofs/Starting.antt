@@ -13,8 +13,8 @@ use Rattle.store_laws.specs.Changes.{Created}
 use Rattle.store_laws.specs.Files.{file_at}
 use Rattle.store_laws.specs.Tells.{made}
 use Rattle.store_laws.proofs.Facts.{acts_told, changed_room, create_told}
-use Rattle.flow.specs.Running.{unbroken}
-use Rattle.flow.specs.declared.names.Metadata.{Metadata}
+use Rattle.mount_model.specs.Running.{unbroken}
+use Rattle.mount_model.specs.declared.names.Metadata.{Metadata}
 use Rattle.mount_model.specs.declared.call.Ask.{Ask}
 use Rattle.mount_model.specs.declared.call.Call.TheVariants.{PutFlat, StartPack}
 use Rattle.mount_model.specs.declared.reply.Reply.{Reply}
@@ -37,7 +37,7 @@ use Rattle.mount_sound.specs.Ledger.{Ledger}
 use Rattle.mount_sound.specs.Owed.{InRoom, May, MayPut, Owes}
 use Rattle.mount_sound.specs.Sound.{IsSoundFor}
 use Rattle.mount_sound.proofs.Facts.{later, left_packs, one_tree, put_flat_lasts, some_room}
-use Rattle.holding_laws.proofs.Facts.{LastsOne}
+use Rattle.recovery_laws.proofs.Holds.Facts.{LastsOne}
 use Rattle.migrate_core.specs.Longest.{packing}
 use Rattle.migrate_core.proofs.Facts.{packing_is}
 use Rattle.recovery_laws.proofs.Facts.{Cleanly, cleanly_then}

@@ -5,12 +5,12 @@ use Rattle.plfs_types.specs.declared.entries.Entry.{Entry}
 use Rattle.index_entry.specs.Spelling.{spelling_all}
 use Rattle.plfs_types.specs.declared.limits.TheConstants.{MAX_PACKED}
 use Rattle.store_api.specs.declared.step.Answer.TheVariants.{Bytes, Number}
-use Rattle.flow.specs.declared.stuck.Stuck.{Stuck}
-use Rattle.flow.specs.Running.{asking, unbroken}
-use Rattle.story.specs.Program.{done, followed_by}
-use Rattle.story.specs.Safe.{IsSafe}
-use Rattle.flow.specs.declared.names.Metadata.{Metadata}
-use Rattle.flow.specs.Replies.{Tries, bytes_in, damage, failure, given, on_ok, trouble}
+use Rattle.mount_model.specs.declared.stuck.Stuck.{Stuck}
+use Rattle.mount_model.specs.Running.{asking, unbroken}
+use Rattle.mount_model.specs.Program.{done, followed_by}
+use Rattle.mount_model.specs.Safe.{IsSafe}
+use Rattle.mount_model.specs.declared.names.Metadata.{Metadata}
+use Rattle.mount_model.specs.FlowReplies.{Tries, bytes_in, damage, failure, given, on_ok, trouble}
 use Rattle.mount_model.specs.declared.call.Call.{Call}
 use Rattle.mount_model.specs.declared.call.Call.TheVariants.{InstallFlat, Look, PutFlat, StartPack, SyncFlat}
 use Rattle.mount_model.specs.declared.call.Look.TheVariants.{Length, Read}
@@ -20,7 +20,7 @@ use Rattle.mount_model.specs.Paths.{index_path}
 use Rattle.mount_model.specs.State.{State}
 use Rattle.mount_model.specs.Step.{IsStep}
 use Rattle.mount_sound.specs.Owed.{Owes, Permits}
-use Rattle.holding_laws.proofs.Facts.{may_free, safe_ask}
+use Rattle.recovery_laws.proofs.Holds.Facts.{may_free, safe_ask}
 use Rattle.recovery_laws.proofs.Facts.{Cleanly, Stays, asks_safe, cleanly_so, cleanly_stays, cleanly_then, safe_on_ok, stays_both}
 use Rattle.migrate_core.specs.declared.migrated.Migrated.{Migrated}
 use Rattle.migrate_core.specs.Counting.{noted}
@@ -29,7 +29,7 @@ use Rattle.migrate_core.specs.Longest.{packing}
 use Rattle.migrate_core.specs.Migrating.{migrates}
 use Rattle.migrate_core.specs.Words.{Fate, Packed, Tail, is_packed, passed_over}
 use Rattle.migrate_core.specs.Writers.{counts_of, flat_in, if_done, installs, or_damage, puts, reads, reads_left, sized, starts, syncs, writer_program}
-use Rattle.flow.specs.Entries.{next_read, reads_of}
+use Rattle.mount_model.specs.Entries.{next_read, reads_of}
 use Rattle.index_reader.specs.Replies.{number_in}
 use Rattle.migrate_laws.proofs.Left.{AreLeft, IsLeft, all_left_stay, left_stays}
 use Rattle.migrate_laws.proofs.Looking.{of_bytes, of_number}

@@ -3,7 +3,7 @@ use Rattle.std.specs.Prelude.{◌≡◌, ℕ, List, ◌∷◌, ◌++◌, Some}
 use Rattle.std.specs.List.{AllByRecursion}
 use Rattle.store_api.specs.declared.tree.Tree.{Tree}
 use Rattle.store_laws.specs.There.{IsRoomOf}
-use Rattle.flow.specs.Running.{unbroken}
+use Rattle.mount_model.specs.Running.{unbroken}
 use Rattle.mount_model.specs.declared.call.Call.{Call}
 use Rattle.mount_model.specs.declared.call.Call.TheVariants.{Find, Greet, Look}
 use Rattle.mount_model.specs.History.{Event, state_after}

@@ -1,7 +1,7 @@
 //! The laws of a migration.
 ghost use Rattle.std.specs.Prelude.{ℕ, List, Ok};
-ghost use Rattle.story.specs.Safe.{IsSafe};
-ghost use Rattle.flow.specs.Running.{asking, Runs};
+ghost use Rattle.mount_model.specs.Safe.{IsSafe};
+ghost use Rattle.mount_model.specs.Running.{asking, Runs};
 ghost use Rattle.mount_model.specs.State.{State};
 ghost use Rattle.mount_model.specs.History.{Event};
 ghost use Rattle.mount_model.specs.Step.{IsStep};

@@ -11,8 +11,8 @@ use Rattle.mount_model.specs.Listed.{IsGreatest, IsMarkOf}
 use Rattle.mount_model.specs.Mounting.{marks_step, list_step, mark_step, DrawsMark, IsMounted}
 use Rattle.mount_model.specs.Failing.{trouble_of, LeavesNone, FailsToMount, no_room, no_names, no_next, no_mark}
 use Rattle.mount_table.specs.Roll.{new_roll, state_of}
-use Rattle.mount_model.specs.declared.trouble.MountTrouble.{MountTrouble}
-use Rattle.mount_model.specs.declared.trouble.MountTrouble.TheVariants.{Fault}
+use Rattle.mount_model.specs.declared.mount_trouble.MountTrouble.{MountTrouble}
+use Rattle.mount_model.specs.declared.mount_trouble.MountTrouble.TheVariants.{Fault}
 
 pub mark_fits : (names : List Name) (greatest : ℕ) → IsGreatest IsMarkOf names greatest → greatest < 2 ^ 32
 mark_fits names greatest known = elim known.reached [ inl none ↦ omega (arith, none.1) | inr any ↦ any.4.0.1 ]

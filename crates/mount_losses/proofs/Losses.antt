@@ -17,9 +17,9 @@ use Rattle.mount_model.specs.Paths.{index_path, installed_item, installed_of, lo
 use Rattle.mount_model.specs.Table.{row_of}
 use Rattle.mount_model.specs.State.{State}
 use Rattle.mount_model.proofs.Facts.{row_of_id}
-use Rattle.mount_shape.specs.Marks.{IsOfMark}
-use Rattle.mount_shape.specs.Shape.{IsShapedTree}
-use Rattle.mount_shape.proofs.Facts.{left_shaped, lost_shaped}
+use Rattle.mount_sound.specs.Marks.{IsOfMark}
+use Rattle.mount_sound.specs.Shape.{IsShapedTree}
+use Rattle.mount_sound.proofs.Shapes.Facts.{left_shaped, lost_shaped}
 use Rattle.mount_sound.specs.Entries.{logged}
 use Rattle.mount_sound.specs.Ledger.{Written, entries_in, AreWritesOf, Ledger}
 use Rattle.mount_sound.specs.Growing.{IsMore}

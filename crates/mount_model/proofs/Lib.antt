@@ -4,6 +4,7 @@ mod Broken
 mod Dead
 mod Deciding
 pub mod Facts
+pub mod Flows
 mod Foreign
 mod Holders
 mod Holding
@@ -16,4 +17,5 @@ mod Ranges
 mod Replying
 mod Rows
 mod Stopping
+pub mod Stories
 mod Tables

@@ -4,8 +4,8 @@ use Rattle.store_api.specs.declared.step.Answer.TheVariants.{Made, Names}
 use Rattle.store_api.specs.declared.store.Trouble.TheVariants as told_trouble
 use Rattle.store_api.specs.Step.{Step}
 use Rattle.store_api.specs.Acts.{Stored, Acts}
-use Rattle.mount_model.specs.declared.trouble.MountTrouble.{MountTrouble}
-use Rattle.mount_model.specs.declared.trouble.MountTrouble.TheVariants.{Damaged, Spent, NoMarks, Fault, NoMemory}
+use Rattle.mount_model.specs.declared.mount_trouble.MountTrouble.{MountTrouble}
+use Rattle.mount_model.specs.declared.mount_trouble.MountTrouble.TheVariants.{Damaged, Spent, NoMarks, Fault, NoMemory}
 use Rattle.mount_model.specs.Paths.{Name}
 use Rattle.mount_model.specs.Listed.{IsGreatest, IsLeastOther, IsMarkOf}
 use Rattle.mount_model.specs.Making.{Told}

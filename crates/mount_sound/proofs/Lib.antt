@@ -7,5 +7,6 @@ mod Indices
 mod Kept
 mod Moments
 mod Owed
+pub mod Shapes
 mod Soundness
 mod Writers

@@ -7,8 +7,8 @@ use Rattle.mount_model.specs.declared.row.Row.{Row}
 use Rattle.mount_model.specs.Table.{row_of}
 use Rattle.mount_model.specs.State.{State, last_id}
 use Rattle.mount_model.specs.Regular.{IsRegular}
-use Rattle.mount_shape.specs.Marks.{IsOfMark}
-use Rattle.mount_shape.specs.Shape.{IsShapedTree, IsShaped}
+use Rattle.mount_sound.specs.Marks.{IsOfMark}
+use Rattle.mount_sound.specs.Shape.{IsShapedTree, IsShaped}
 use Rattle.mount_sound.specs.Ledger.{Written, AreWritesOf, Ledger}
 use Rattle.mount_sound.specs.Items.{HasItem}
 use Rattle.mount_sound.specs.Dropping.{IsWriter}

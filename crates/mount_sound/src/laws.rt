@@ -8,7 +8,7 @@ ghost use Rattle.mount_model.specs.declared.call.Ask.{Ask};
 ghost use Rattle.mount_model.specs.declared.reply.Reply.{Reply};
 ghost use Rattle.mount_model.specs.State.{State};
 ghost use Rattle.mount_model.specs.Step.{IsStep};
-ghost use Rattle.mount_model.specs.declared.trouble.MountTrouble.{MountTrouble};
+ghost use Rattle.mount_model.specs.declared.mount_trouble.MountTrouble.{MountTrouble};
 ghost use Rattle.mount_model.specs.Failing.{FailsToMount};
 ghost use Rattle.mount_model.specs.Mounting.{IsMounted};
 ghost use Rattle.mount_model.specs.History.{Event, IsLegal, state_after, told_tree_after};

@@ -22,10 +22,10 @@ use Rattle.mount_model.specs.Making.{Told, otherwise, MakesAct}
 use Rattle.mount_model.specs.Paths.{flats, index_path, temporary, temporary_item, temporary_of, installed}
 use Rattle.mount_model.specs.State.{State, Table, last_id, drawn}
 use Rattle.mount_model.proofs.Facts.{IsUnderway, flattening_apart, may_enter}
-use Rattle.mount_shape.specs.Container.{IsOfId}
-use Rattle.mount_shape.specs.Named.{FitsNames}
-use Rattle.mount_shape.specs.Shape.{IsDrawnBy}
-use Rattle.mount_shape.proofs.Facts.{id_fits, item_drawn}
+use Rattle.mount_sound.specs.Container.{IsOfId}
+use Rattle.mount_sound.specs.Named.{FitsNames}
+use Rattle.mount_sound.specs.Shape.{IsDrawnBy}
+use Rattle.mount_sound.proofs.Shapes.Facts.{id_fits, item_drawn}
 use Rattle.mount_sound.specs.Ledger.{Ledger}
 use Rattle.mount_sound.specs.Owed.{Owes}
 use Rattle.mount_sound.specs.Sound.{IsSoundFor}

@@ -27,8 +27,8 @@ use Rattle.container_layout.specs.Paths.{openhosts}
 use Rattle.mount_model.specs.Recovering.{mend_hold_check, mend_hold_step, mend_hold_outcome, MendsHold}
 use Rattle.mount_model.specs.State.{State, Table, last_id, timed}
 use Rattle.mount_model.proofs.Facts.{MayTruncate, holder_apart, is_holding, may_enter, may_truncate}
-use Rattle.mount_shape.specs.Container.{IsContainer}
-use Rattle.mount_shape.specs.Shape.{IsDrawnBy}
+use Rattle.mount_sound.specs.Container.{IsContainer}
+use Rattle.mount_sound.specs.Shape.{IsDrawnBy}
 use Rattle.mount_sound.specs.Ledger.{Ledger}
 use Rattle.mount_sound.specs.Owed.{IsTop, Owes}
 use Rattle.mount_sound.specs.Sound.{IsSoundFor}

@@ -19,7 +19,7 @@ use Rattle.mount_model.specs.Paths.{Name, metadata, dropping_path, index_path, m
 use Rattle.mount_model.specs.Recovering.{done_outcome, sync_dropping_step, SyncsIt, SyncsDropping, alive_check, Inspects, mend_check, mend_step, MendsIt, Mends, mended_file, mend_meta_step, mend_meta_outcome, MendsItsMeta, MendsMeta, bury_step, bury_outcome, BuriesIt, Buries}
 use Rattle.mount_model.specs.State.{State, Table, last_id}
 use Rattle.mount_model.proofs.Facts.{is_container, may_mend}
-use Rattle.mount_shape.specs.Shape.{IsDrawnBy}
+use Rattle.mount_sound.specs.Shape.{IsDrawnBy}
 use Rattle.mount_sound.specs.Ledger.{Ledger}
 use Rattle.mount_sound.specs.Owed.{HasDropping, MayMend, Owes}
 use Rattle.mount_sound.specs.Sound.{IsSoundFor}

@@ -40,9 +40,9 @@ use Rattle.container_layout.specs.Paths.{openhosts}
 use Rattle.mount_model.specs.State.{State, Table, last_id, drawn, timed}
 use Rattle.mount_model.specs.Table.{rank, only, may_close, is_live}
 use Rattle.mount_model.specs.Writing.{write_check, stamp_at, write_step, write_outcome, WritesAt, Writes}
-use Rattle.mount_shape.specs.Container.{IsContainer}
-use Rattle.mount_shape.specs.Shape.{IsDrawnBy}
-use Rattle.mount_shape.proofs.Facts.{item_held, id_fits, container_at, shape_of}
+use Rattle.mount_sound.specs.Container.{IsContainer}
+use Rattle.mount_sound.specs.Shape.{IsDrawnBy}
+use Rattle.mount_sound.proofs.Shapes.Facts.{item_held, id_fits, container_at, shape_of}
 use Rattle.mount_undamaged.specs.Damage.{ShowsNoDamage}
 use Rattle.mount_sound.specs.Kept.{Begins, IsAtStage, IsKept}
 use Rattle.mount_sound.specs.Ledger.{entries_in, content, Ledger}

@@ -2,9 +2,9 @@
 use Rattle.std.proofs.Common.{◌≡◌, true, false, refl}
 use Rattle.std.specs.Prelude.{◌↔◌, IsTrue}
 use Rattle.std.proofs.lemmas.Bool.{false≢true}
-use Rattle.flow.specs.Replies.{on_ok}
-use Rattle.flow.specs.Standing.{rest_of, IsOver}
-use Rattle.flow.proofs.Composing.{calling_not_over, not_over}
+use Rattle.mount_model.specs.FlowReplies.{on_ok}
+use Rattle.mount_model.specs.Standing.{rest_of, IsOver}
+use Rattle.mount_model.proofs.Flows.Composing.{calling_not_over, not_over}
 use Rattle.index_reader.specs.OpenStages.{open_standing}
 use Rattle.gather_flow.specs.Gathering.{gather_rest}
 use Rattle.opening_flow.specs.declared.parts.Part.{Part}

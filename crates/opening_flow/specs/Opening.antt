@@ -1,8 +1,8 @@
 -- The calls of an opening: those that list a container, those of its shares, one after the other, and one that lists its
 -- truncates; and the reader that comes of them.
 use Rattle.std.specs.Prelude.{ℕ, [], Ok}
-use Rattle.story.specs.Program.{done, followed_by}
-use Rattle.flow.specs.Replies.{Tries, on_ok}
+use Rattle.mount_model.specs.Program.{done, followed_by}
+use Rattle.mount_model.specs.FlowReplies.{Tries, on_ok}
 use Rattle.mount_model.specs.Paths.{Name}
 use Rattle.index_reader.specs.declared.listing.Listing.{Listing}
 use Rattle.index_reader.specs.declared.opened.OpenReader.{OpenReader}

@@ -1,10 +1,10 @@
 -- Where the parts of an opening stand in its program.
 use Rattle.std.specs.Prelude.{◌≡◌, ℕ, ◌+◌, Bool, true, false, IfSome, Result}
-use Rattle.story.specs.Program.{done}
-use Rattle.flow.specs.declared.stuck.Stuck.{Stuck}
-use Rattle.flow.specs.Standing.{Standing, ready, rest_of}
-use Rattle.flow.specs.Composed.{then_on, is_awaiting, calling}
-use Rattle.flow.specs.Replies.{on_ok}
+use Rattle.mount_model.specs.Program.{done}
+use Rattle.mount_model.specs.declared.stuck.Stuck.{Stuck}
+use Rattle.mount_model.specs.Standing.{Standing, ready, rest_of}
+use Rattle.mount_model.specs.Composed.{then_on, is_awaiting, calling}
+use Rattle.mount_model.specs.FlowReplies.{on_ok}
 use Rattle.mount_model.specs.declared.call.Call.{Call}
 use Rattle.mount_model.specs.declared.reply.Reply.{Reply}
 use Rattle.mount_model.specs.Step.{OwedBy}

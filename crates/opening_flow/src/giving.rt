@@ -1,16 +1,15 @@
 //! The next call of each part of an opening, and the part once it was given.
 ghost use Rattle.std.specs.Prelude.{◌≡◌, true, Some, IfOk, IfSome};
-ghost use Rattle.flow.specs.Standing.{next_of, rest_of};
-ghost use Rattle.flow.specs.Composed.{is_awaiting};
+ghost use Rattle.mount_model.specs.Standing.{next_of, rest_of};
+ghost use Rattle.mount_model.specs.Composed.{is_awaiting};
 ghost use Rattle.mount_model.specs.Step.{OwedBy};
 ghost use Rattle.index_reader.specs.OpenStages.{open_standing};
 ghost use Rattle.opening_flow.specs.Parts.{parted, parts_left, IsPartUnderway};
 
 use crate::parts::Part;
-use flow::Flow;
 use gather_flow::Gathering;
 use index_reader::{OpenRead, look_on};
-use mount_model::Call;
+use mount_model::{Call, Flow};
 use plfs_types::NoMemory;
 
 /// The next call of the listing.

@@ -1,9 +1,8 @@
 //! The opening of a reader.
 use crate::parts::Part;
 use crate::underway::Underway;
-use flow::{Flow, Stuck};
 use index_reader::{OpenRead, OpenReader};
-use mount_model::{Call, Reply};
+use mount_model::{Call, Flow, Reply, Stuck};
 use plfs_types::{LogicalName, NoMemory};
 use std::alloc::Global;
 use std::mem;
@@ -20,7 +19,7 @@ pub struct Opening {
 
 impl Opening {
     ghost use Rattle.std.specs.Prelude.{◌≡◌, ◌↔◌, IsTrue};
-    ghost use Rattle.flow.specs.Standing.{ready, rest_of, IsOver};
+    ghost use Rattle.mount_model.specs.Standing.{ready, rest_of, IsOver};
     ghost use Rattle.opening_flow.specs.Opening.{opening_program};
     ghost use Rattle.opening_flow.specs.OpeningStages.{opening_standing};
 

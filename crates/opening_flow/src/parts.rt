@@ -1,9 +1,9 @@
 //! The parts of an opening, one after the other.
 ghost use Rattle.std.specs.Prelude.{◌≡◌, ◌<◌, ◌≤◌, ◌+◌, [], true, Option, Some, IfOk, IfSome};
 ghost use Rattle.mount_model.specs.declared.call.Call.{Call as Asked};
-ghost use Rattle.flow.specs.Standing.{ready, next_of, rest_of, replied, Awaits, IsFresh, IsOver};
-ghost use Rattle.flow.specs.Composed.{calling, is_awaiting, then_on};
-ghost use Rattle.flow.specs.Replies.{on_ok};
+ghost use Rattle.mount_model.specs.Standing.{ready, next_of, rest_of, replied, Awaits, IsFresh, IsOver};
+ghost use Rattle.mount_model.specs.Composed.{calling, is_awaiting, then_on};
+ghost use Rattle.mount_model.specs.FlowReplies.{on_ok};
 ghost use Rattle.mount_model.specs.Step.{OwedBy};
 ghost use Rattle.index_reader.specs.Covered.{AreByWriter as AreCoversByWriter};
 ghost use Rattle.index_reader.specs.Listing.{AreByWriter};
@@ -13,10 +13,9 @@ ghost use Rattle.opening_flow.specs.Opening.{opens, reads_as};
 ghost use Rattle.opening_flow.specs.Parts.{parted, parts_left, IsPartUnderway};
 
 use crate::giving::{give_call, give_look};
-use flow::{Flow, Stuck};
 use gather_flow::{AllRead, Called, Gathering, Listed};
 use index_reader::{Listing, OpenRead, OpenReader};
-use mount_model::{Call, Reply};
+use mount_model::{Call, Flow, Reply, Stuck};
 use plfs_types::NoMemory;
 use std::alloc::Global;
 

@@ -7,10 +7,10 @@ use Rattle.mount_model.specs.History.{Event, state_after}
 use Rattle.mount_model.specs.Paths.{Name}
 use Rattle.mount_sound.specs.Owed.{IsLawful}
 use Rattle.mount_sound.proofs.Facts.{lawful_first}
-use Rattle.flow.specs.declared.stuck.Stuck.{Stuck}
-use Rattle.flow.specs.Replies.{on_ok}
-use Rattle.flow.specs.Running.{Runs}
-use Rattle.flow.proofs.Facts.{runs_in_two}
+use Rattle.mount_model.specs.declared.stuck.Stuck.{Stuck}
+use Rattle.mount_model.specs.FlowReplies.{on_ok}
+use Rattle.mount_model.specs.Running.{Runs}
+use Rattle.mount_model.proofs.Flows.Facts.{runs_in_two}
 use Rattle.index_reader.specs.declared.listing.Listing.{Listing}
 use Rattle.index_reader.specs.declared.opened.OpenReader.{OpenReader}
 use Rattle.index_reader.specs.declared.sharing.Share.{Share}
@@ -19,7 +19,7 @@ use Rattle.gather_flow.specs.declared.all_read.AllRead.{AllRead}
 use Rattle.gather_flow.specs.Dealing.{dealt_to}
 use Rattle.gather_flow.specs.Gathering.{shares_from}
 use Rattle.gather_flow.specs.OneIndex.{reader_of}
-use Rattle.gathering.specs.Moments.{Moment, IsSoundAt}
+use Rattle.reader_laws.specs.Moments.{Moment, IsSoundAt}
 use Rattle.reader_laws.specs.Failing.{FailsByStore, FailsOrLacks}
 use Rattle.reader_laws.specs.Opened.{HasOpenedIn}
 use Rattle.reader_laws.specs.Opening.{Lists, shares_of}

@@ -1,9 +1,9 @@
 -- What the program of an opening comes to.
 use Rattle.std.specs.Prelude.{ℕ, List, Result, Ok, Err}
 use Rattle.mount_model.specs.History.{Event}
-use Rattle.flow.specs.declared.stuck.Stuck.{Stuck}
+use Rattle.mount_model.specs.declared.stuck.Stuck.{Stuck}
 use Rattle.index_reader.specs.declared.opened.OpenReader.{OpenReader}
-use Rattle.gathering.specs.Moments.{Moment}
+use Rattle.reader_laws.specs.Moments.{Moment}
 use Rattle.reader_laws.specs.Failing.{FailsOrLacks}
 use Rattle.reader_laws.specs.Opened.{HasOpenedIn}
 

@@ -3,10 +3,10 @@ ghost use Rattle.std.specs.Prelude.{◌≤◌, ℕ, List, Result};
 ghost use Rattle.mount_model.specs.History.{Event};
 ghost use Rattle.mount_model.specs.Paths.{Name};
 ghost use Rattle.mount_sound.specs.Owed.{IsLawful};
-ghost use Rattle.flow.specs.declared.stuck.Stuck.{Stuck};
-ghost use Rattle.flow.specs.Running.{Runs};
+ghost use Rattle.mount_model.specs.declared.stuck.Stuck.{Stuck};
+ghost use Rattle.mount_model.specs.Running.{Runs};
 ghost use Rattle.index_reader.specs.declared.opened.OpenReader.{OpenReader};
-ghost use Rattle.gathering.specs.Moments.{Moment, IsSoundAt};
+ghost use Rattle.reader_laws.specs.Moments.{Moment, IsSoundAt};
 ghost use Rattle.opening_flow.specs.Opening.{opening_program};
 ghost use Rattle.opening_laws.specs.Ending.{OpeningEnds};
 

@@ -9,8 +9,8 @@ use Rattle.script_lang.specs.declared.line.Why.{Why}
 use Rattle.script_lang.specs.declared.line.Why.TheVariants as why
 use Rattle.mount_model.specs.declared.reply.Refusal.{Refusal}
 use Rattle.mount_model.specs.declared.reply.Refusal.TheVariants as refusal
-use Rattle.flow.specs.declared.stuck.Stuck.{Stuck}
-use Rattle.flow.specs.declared.stuck.Stuck.TheVariants as stuck
+use Rattle.mount_model.specs.declared.stuck.Stuck.{Stuck}
+use Rattle.mount_model.specs.declared.stuck.Stuck.TheVariants as stuck
 use Rattle.writer_flow.specs.declared.handle.WriterHandle.{WriterHandle}
 use Rattle.attr_flow.specs.declared.attr.Attr.{Attr}
 use Rattle.flatten_core.specs.declared.flattening.Flattened.{Flattened as WasFlattened}

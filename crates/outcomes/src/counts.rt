@@ -5,8 +5,8 @@ ghost use Rattle.outcomes.specs.Outcomes.{flatten_outcome as outcome_of};
 
 use crate::lines::stuck_outcome;
 use flatten_core::Flattened;
-use flow::Stuck;
 use index_reader::OpenReader;
+use mount_model::Stuck;
 use plfs_types::{CountList, Cover, NoMemory, Trunc, TruncList, WriterCount};
 use script_lang::Outcome;
 use std::alloc::{AllocError, Global};

@@ -4,8 +4,7 @@ ghost use Rattle.outcomes.specs.Outcomes as of;
 
 use crate::data::first_difference;
 use attr_flow::Attr;
-use flow::Stuck;
-use mount_model::Refusal;
+use mount_model::{Refusal, Stuck};
 use plain_file::{Piece, Pieces};
 use plfs_types::{Bytes, Entry, NameList, NoMemory};
 use script_lang::{Data, MapText, Outcome, Why};

@@ -4,8 +4,8 @@ use Rattle.std.specs.Prelude.{IfOk}
 use Rattle.plfs_types.specs.declared.memory.NoMemory.{NoMemory}
 use Rattle.mount_model.specs.declared.call.Call.{Call}
 use Rattle.mount_model.specs.declared.reply.Reply.{Reply}
-use Rattle.story.specs.Program.{followed_by}
-use Rattle.flow.specs.Standing.{Standing}
+use Rattle.mount_model.specs.Program.{followed_by}
+use Rattle.mount_model.specs.Standing.{Standing}
 use Rattle.read_plan.specs.Plan.{plan_of}
 use Rattle.index_reader.specs.declared.opened.OpenReader.{OpenReader}
 use Rattle.index_reader.specs.Reading.{read_program}

@@ -7,8 +7,8 @@ use Rattle.plain_file.specs.Sources.{Source, source_at}
 use Rattle.read_plan.specs.Plan.{plan_of}
 use Rattle.mount_model.specs.declared.call.Call.{Call}
 use Rattle.mount_model.specs.declared.reply.Reply.{Reply}
-use Rattle.flow.specs.declared.stuck.Stuck.{Stuck as Trouble}
-use Rattle.story.specs.Program.{Program, done, followed_by}
+use Rattle.mount_model.specs.declared.stuck.Stuck.{Stuck as Trouble}
+use Rattle.mount_model.specs.Program.{Program, done, followed_by}
 use Rattle.index_reader.specs.declared.opened.OpenReader.{OpenReader}
 use Rattle.index_reader.specs.Reading.{read_program}
 use Rattle.unit_format.specs.declared.units.TheConstants.{REGION_SIZE}

@@ -1,6 +1,6 @@
 //! The stages of a scan.
 ghost use Rattle.std.specs.Prelude.{◌≡◌, ◌≤◌, ◌<◌, ◌+◌, true, false, IfOk, IfSome, Some};
-ghost use Rattle.flow.specs.Standing.{ready, next_of, rest_of, replied, Awaits};
+ghost use Rattle.mount_model.specs.Standing.{ready, next_of, rest_of, replied, Awaits};
 ghost use Rattle.index_reader.specs.declared.opened.OpenReader.{OpenReader as Reader};
 ghost use Rattle.mount_model.specs.Step.{OwedBy};
 ghost use Rattle.pack_files.specs.Scanning.{scans, after_read, told as told_of, further as place_after, calls_in};
@@ -8,9 +8,8 @@ ghost use Rattle.pack_files.specs.Stages.{stage_standing, stage_left, chunks_lef
 
 use crate::keys::set_keys;
 use crate::scan::ScanStuck;
-use flow::{Flow, Stuck};
 use index_reader::{OpenReader, Reading};
-use mount_model::{Call, Reply};
+use mount_model::{Call, Flow, Reply, Stuck};
 use plfs_types::{Bytes, NoMemory};
 use std::alloc::Global;
 use unit_format::{Region, Scanner, UnitList};

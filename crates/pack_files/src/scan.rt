@@ -1,13 +1,12 @@
 //! The machine that scans a region.
 ghost use Rattle.std.specs.Prelude.{◌≡◌, ◌<◌, true, IfOk};
-ghost use Rattle.flow.specs.Standing.{ready};
+ghost use Rattle.mount_model.specs.Standing.{ready};
 ghost use Rattle.pack_files.specs.Scanning.{scan_program, region_end};
 ghost use Rattle.pack_files.specs.Stages.{is_underway};
 
 use crate::reading::{CHUNK, Stage, begin};
-use flow::{Flow, Stuck};
 use index_reader::OpenReader;
-use mount_model::{Call, Reply};
+use mount_model::{Call, Flow, Reply, Stuck};
 use plfs_types::NoMemory;
 use std::alloc::Global;
 use std::mem;

@@ -15,10 +15,10 @@ use Rattle.mount_model.specs.History.{Event, state_after}
 use Rattle.mount_model.specs.State.{State}
 use Rattle.mount_sound.specs.Owed.{IsLawful}
 use Rattle.mount_sound.proofs.Facts.{lawful_first}
-use Rattle.story.specs.Program.{Program, done, followed_by}
-use Rattle.flow.specs.declared.stuck.Stuck.{Stuck as Trouble}
-use Rattle.flow.specs.Running.{Runs}
-use Rattle.flow.proofs.Facts.{RunsInTwo, runs_in_two}
+use Rattle.mount_model.specs.Program.{Program, done, followed_by}
+use Rattle.mount_model.specs.declared.stuck.Stuck.{Stuck as Trouble}
+use Rattle.mount_model.specs.Running.{Runs}
+use Rattle.mount_model.proofs.Flows.Facts.{RunsInTwo, runs_in_two}
 use Rattle.index_reader.specs.declared.opened.OpenReader.{OpenReader}
 use Rattle.index_reader.specs.Reading.{read_program}
 use Rattle.reader_laws.specs.Failing.{FailsByStore}

@@ -1,10 +1,10 @@
 //! Small files of a container are scanned and found, and one is put.
 ghost use Rattle.std.specs.Prelude.{◌≤◌, ◌<◌, length};
-ghost use Rattle.flow.specs.Standing.{IsFresh};
+ghost use Rattle.mount_model.specs.Standing.{IsFresh};
 
 use crate::world::reply_to;
-use flow::{Flow, Stuck};
 use index_reader::{OpenReader, Reading};
+use mount_model::{Flow, Stuck};
 use opening_flow::Opening;
 use pack_files::{PackPut, PutTrouble, ScanRegion, ScanStuck};
 use plfs_types::{Bytes, LogicalName, NoMemory, name_in};

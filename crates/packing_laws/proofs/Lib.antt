@@ -4,3 +4,4 @@ mod Kept
 mod OnlyUnits
 mod Puts
 mod SmallFiles
+pub mod Unpacking

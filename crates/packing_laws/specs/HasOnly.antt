@@ -15,7 +15,7 @@ use Rattle.mount_sound.specs.Ledger.{Written}
 use Rattle.mount_sound.specs.Sound.{IsSoundTree}
 use Rattle.unit_format.specs.Regions.{IsRegion}
 use Rattle.unit_format.specs.Units.{SmallFile, unit_spelling}
-use Rattle.gathering.specs.Moments.{Dropping, HadTrunc, Moment, Stood, issued_by, landed}
+use Rattle.reader_laws.specs.Moments.{Dropping, HadTrunc, Moment, Stood, issued_by, landed}
 use Rattle.mount_sound.specs.Ledger.{change_of}
 use Rattle.pack_laws.specs.Scanned.{region_bytes, region_start, region_stop}
 use Rattle.packing_laws.specs.OnlyUnits.{Filing, HasUnitAt, IsFiling, PutsUnit}

@@ -8,14 +8,14 @@ use Rattle.mount_model.specs.Paths.{Name}
 use Rattle.mount_model.specs.State.{State}
 use Rattle.mount_sound.specs.Owed.{IsLawful}
 use Rattle.index_reader.specs.declared.opened.OpenReader.{OpenReader}
-use Rattle.gathering.specs.Moments.{Moment, next_moment}
+use Rattle.reader_laws.specs.Moments.{Moment, next_moment}
 use Rattle.reader_laws.specs.Opened.{HasOpenedIn}
 use Rattle.unit_format.specs.declared.finding.Region.{Region}
 use Rattle.unit_format.specs.declared.finding.Unit.{Unit as Found}
 use Rattle.unit_format.specs.Units.{SmallFile}
 use Rattle.pack_laws.specs.Scanned.{TellsUnits}
-use Rattle.unpack_laws.specs.Seen.{file_seen, moment_seen}
-use Rattle.unpack_laws.specs.Told.{IsContent, StandsIn}
+use Rattle.packing_laws.specs.Seen.{file_seen, moment_seen}
+use Rattle.packing_laws.specs.Told.{IsContent, StandsIn}
 
 -- the region of the file has this unit, with its key, and it is that of this small file
 pub record HasUnit (pieces : List Piece) (file : List ℕ) (region : ℕ) (u : Found) (f : SmallFile) : Type 0 where

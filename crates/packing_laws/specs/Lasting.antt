@@ -14,10 +14,10 @@ use Rattle.mount_sound.specs.Keeping.{kept_in}
 use Rattle.mount_sound.specs.Ledger.{Written}
 use Rattle.mount_sound.specs.Owed.{IsLawful}
 use Rattle.mount_sound.specs.Sound.{IsSoundTree}
-use Rattle.gathering.specs.Gathering.{Gathered}
+use Rattle.reader_laws.specs.Gathering.{Gathered}
 use Rattle.plfs_types.specs.Places.{IsAmong}
-use Rattle.gathering.specs.Moments.{Dropping, Moment, issued_by, moment_after}
-use Rattle.gathering.specs.View.{writes_in}
+use Rattle.reader_laws.specs.Moments.{Dropping, Moment, issued_by, moment_after}
+use Rattle.reader_laws.specs.View.{writes_in}
 
 -- The first writes that the writer issued are these, and as many of its entries are kept with their bytes.
 pub record KeepsSome (m : Moment) (d : Dropping) (writes : List Written) : Type 0 where

@@ -1,8 +1,11 @@
 pub mod Answered
 pub mod HasOnly
 pub mod Isolated
+pub mod Keys
 pub mod Lasting
 pub mod Later
 pub mod OnlyUnits
 pub mod Packed
+pub mod Seen
+pub mod Told
 pub mod Troubles

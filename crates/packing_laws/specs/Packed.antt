@@ -6,11 +6,11 @@ use Rattle.mount_model.specs.State.{State}
 use Rattle.mount_sound.specs.Ledger.{Written}
 use Rattle.mount_sound.specs.Owed.{IsLawful}
 use Rattle.unit_format.specs.Units.{unit_size, unit_spelling}
-use Rattle.gathering.specs.Moments.{Dropping, Moment, moment_after}
+use Rattle.reader_laws.specs.Moments.{Dropping, Moment, moment_after}
 use Rattle.reader_laws.specs.Naming.{IsRoomNamed}
 use Rattle.pack_input.specs.declared.files.NamedFile.{NamedFile}
 use Rattle.pack_laws.specs.Scanned.{region_start, region_stop}
-use Rattle.pack_puts.specs.Putting.{small_file}
+use Rattle.lone_flow.specs.Putting.{small_file}
 use Rattle.packing_laws.specs.Lasting.{KeepsWrites}
 
 -- Each of the writes is the unit of one of the files, in their order, one behind the other from the first place up to the second.

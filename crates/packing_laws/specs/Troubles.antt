@@ -1,6 +1,6 @@
 -- How unpacking, naming and packing end in trouble.
 use Rattle.std.specs.Prelude.{◌≡◌, Result, Ok, Err}
-use Rattle.flow.specs.declared.stuck.Stuck.TheVariants.{Fault}
+use Rattle.mount_model.specs.declared.stuck.Stuck.TheVariants.{Fault}
 use Rattle.trouble_laws.specs.Undamaged.{IsNoDamage}
 use Rattle.pack_files.specs.declared.scan.ScanStuck.{ScanStuck}
 use Rattle.pack_files.specs.declared.scan.ScanStuck.TheVariants.{Bad, Stuck}

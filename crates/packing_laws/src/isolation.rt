@@ -4,14 +4,14 @@ ghost use Rattle.index_entry.specs.Records.{IsBytes};
 ghost use Rattle.plain_file.specs.declared.pieces.Piece.{Piece};
 ghost use Rattle.mount_model.specs.Paths.{Name};
 ghost use Rattle.mount_model.specs.State.{State};
-ghost use Rattle.gathering.specs.Moments.{IsSoundAt, Moment};
-ghost use Rattle.pack_core.specs.Unpacking.{Unpacks};
-ghost use Rattle.unpack_laws.specs.Told.{IsContent};
+ghost use Rattle.reader_laws.specs.Moments.{IsSoundAt, Moment};
+ghost use Rattle.lone_flow.specs.Unpacking.{Unpacks};
+ghost use Rattle.packing_laws.specs.Told.{IsContent};
 ghost use Rattle.packing_laws.specs.Isolated.{HaveSameUnits, SawContent, bytes_seen};
 
+use crate::laws::who_unpacks_sees_one_file;
 use pack_laws::the_units_of_a_region_stand_apart;
 use unit_format::others_change_nothing;
-use unpack_laws::who_unpacks_sees_one_file;
 
 /// A law: two files that hold the same units of a name, with the same keys, give the same answer for it, whatever other units they
 /// have. Who unpacks sees such a file.

@@ -6,11 +6,11 @@ ghost use Rattle.mount_model.specs.State.{State};
 ghost use Rattle.mount_sound.specs.Ledger.{Written};
 ghost use Rattle.mount_sound.specs.Owed.{IsLawful};
 ghost use Rattle.index_reader.specs.declared.opened.OpenReader.{OpenReader};
-ghost use Rattle.gathering.specs.Moments.{Dropping, IsSoundAt, Moment, moment_after};
+ghost use Rattle.reader_laws.specs.Moments.{Dropping, IsSoundAt, Moment, moment_after};
 ghost use Rattle.reader_laws.specs.Opened.{HasOpenedIn};
 ghost use Rattle.pack_input.specs.declared.files.NamedFile.{NamedFile};
-ghost use Rattle.pack_puts.specs.declared.packing.Packed.TheVariants.{All as AllPut};
-ghost use Rattle.pack_puts.specs.Packing.{Packs};
+ghost use Rattle.lone_flow.specs.declared.packing.Packed.TheVariants.{All as AllPut};
+ghost use Rattle.lone_flow.specs.Packing.{Packs};
 ghost use Rattle.packing_laws.specs.Lasting.{HoldsWrites, IsLater, KeepsWrites};
 ghost use Rattle.packing_laws.specs.Packed.{HasPacked, packed_by};
 

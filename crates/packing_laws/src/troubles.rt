@@ -5,10 +5,10 @@ ghost use Rattle.mount_model.specs.Paths.{Name};
 ghost use Rattle.mount_model.specs.State.{State};
 ghost use Rattle.pack_files.specs.declared.scan.ScanStuck.{ScanStuck};
 ghost use Rattle.pack_input.specs.declared.files.NamedFile.{NamedFile};
-ghost use Rattle.pack_core.specs.Naming.{Names};
-ghost use Rattle.pack_core.specs.Unpacking.{Unpacks};
-ghost use Rattle.pack_puts.specs.declared.packing.Packed.{Packed};
-ghost use Rattle.pack_puts.specs.Packing.{Packs};
+ghost use Rattle.lone_flow.specs.Naming.{Names};
+ghost use Rattle.lone_flow.specs.Unpacking.{Unpacks};
+ghost use Rattle.lone_flow.specs.declared.packing.Packed.{Packed};
+ghost use Rattle.lone_flow.specs.Packing.{Packs};
 ghost use Rattle.packing_laws.specs.Troubles.{TellsFault};
 
 /// A law: unpacking, naming and packing by a caller by itself end in a fault only where the store's count of faults rose meanwhile,

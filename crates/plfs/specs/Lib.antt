@@ -1,4 +1,2 @@
-pub mod Folders
-pub mod Inputs
 pub mod Streams
 pub mod Telling

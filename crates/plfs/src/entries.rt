@@ -1,8 +1,6 @@
 //! The files of a folder whose bytes are put: which they are, and how they are read.
 ghost use Rattle.std.specs.Io.{ReadsAtMost};
 
-use crate::amount::{Amount, file_length};
-use crate::spelled::Spelled;
 use copy_program::Named;
 use edge_io::StdSource;
 use plfs_types::{LogicalName, Name, Word};
@@ -10,6 +8,7 @@ use std::alloc::Global;
 use std::fs::{self, DirEntry, File, ReadDir};
 use std::io::{self, ErrorKind, Read};
 use std::str;
+use system_edge::{Amount, Spelled, file_length};
 
 /// The plain files of a folder that have names of files.
 #[derive(Drop)]

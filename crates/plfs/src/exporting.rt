@@ -5,14 +5,7 @@
 ghost use Rattle.std.specs.Prelude.{◌≤◌, length};
 ghost use Rattle.edge_io.specs.Sink.{Takes, taking_over};
 
-use crate::amount::Amount;
-use crate::called::Program;
-use crate::folders::MOST_FOLDERS;
-use crate::lock::{Denial, lock_folders};
-use crate::said::{Said, Saying};
 use crate::serve;
-use crate::spelled::Spelled;
-use crate::standard::Standard;
 use crate::task::{Folders, Task};
 use crate::telling::{CURE, starved, usage};
 use edge_io::{Failed, Sink, StdSink, SystemClock};
@@ -27,6 +20,9 @@ use std::process::ExitCode;
 use std::str;
 use std::sync::Wait;
 use std::thread::Threads;
+use system_edge::{
+    Amount, Denial, MOST_FOLDERS, Program, Said, Saying, Spelled, Standard, lock_folders,
+};
 
 /// The name of the file that is filled. It begins with a dot, so it is none of a file of ROOT.
 const FILLED: &str = ".plfs_export";

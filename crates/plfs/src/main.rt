@@ -7,30 +7,18 @@
 
 ghost use Rattle.std.specs.Prelude.{◌≤◌, length};
 
-mod amount;
-mod called;
 mod entries;
 mod exporting;
-mod folders;
-mod inputs;
-mod lock;
 mod progress;
 mod reading;
-mod said;
 mod serving;
-mod spelled;
-mod standard;
 mod task;
 mod telling;
 
-use crate::called::{Called, Program, read_called};
 use crate::entries::list_files;
 use crate::exporting::obey_export;
-use crate::folders::{MOST_FOLDERS, are_named, folders_of, stores_of};
-use crate::inputs::{open_files, split_from};
-use crate::lock::lock_folders;
 use crate::reading::{copies_the_input, read_input};
-use crate::standard::{INPUT, Standard};
+use crate::serving::obey_serve;
 use crate::task::{Task, run};
 use crate::telling::{
     starved, tell_denied, tell_ran, tell_unlisted, tell_unopened, tell_unread, unread, usage,
@@ -41,7 +29,6 @@ use copy_program::{CopyCommand, ImportCommand};
 use drain_program::DrainCommand;
 use plfs_program::HeldInput;
 use plfs_types::Word;
-use serve_program::ServeCommand;
 use spread_store::{Backing, Spread};
 use std::cell::RefCell;
 use std::io;
@@ -49,6 +36,10 @@ use std::process::ExitCode;
 use std::sync::Wait;
 use std::thread::Threads;
 use store_folder::FolderStore;
+use system_edge::{
+    Called, INPUT, MOST_FOLDERS, Program, Standard, are_named, folders_of, lock_folders,
+    open_files, read_called, split_from, stores_of,
+};
 
 /// Reads the words, the first of which is the folder, and ends with the status of their command. A standard stream
 /// that the program was started without fails, and none of the store's files comes into its place.
@@ -259,25 +250,6 @@ fn obey_check<H: Threads + Wait + Sync>(
         return usage(&rt, Program::Check);
     }
     serve(handle, rt, root, folders, &Task::Check { words }, standard)
-}
-
-// Answers requests, where the words are those of `plfs_serve`.
-#[inline(never)]
-fn obey_serve<H: Threads + Wait + Sync>(
-    handle: &H,
-    rt: HostRuntime,
-    root: &Word,
-    folders: &[&str],
-    words: &[Word],
-    standard: &Standard,
-) -> ExitCode
-    requires few { length folders.now ≤ MOST_FOLDERS }
-{
-    let Some(command) = ServeCommand::read(words) else {
-        return usage(&rt, Program::Serve);
-    };
-    let task = Task::Serve { host: command.host };
-    serve(handle, rt, root, folders, &task, standard)
 }
 
 // Locks the folders, and runs the command over them.

@@ -1,9 +1,9 @@
 //! How far a check is, on standard error where that is a terminal.
 ghost use Rattle.std.specs.Prelude.{◌≡◌};
 
-use crate::amount::hundredths;
 use check_program::Watcher;
 use std::io::IsTerminal;
+use system_edge::hundredths;
 
 /// How far a check is, in a line that each new one overwrites. It is cleared behind the last container.
 #[derive(Clone, Copy)]

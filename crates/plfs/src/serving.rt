@@ -1,13 +1,23 @@
-//! Requests of another program: they come on standard input, and their answers go to standard output.
-use crate::spelled::Spelled;
-use crate::task::Folders;
-use edge_io::{Sink, StdSource, SystemClock};
+//! Requests of other programs: they come on standard input, and their answers go to standard output; or both go by named pipes.
+ghost use Rattle.std.specs.Prelude.{◌≤◌, length};
+
+use crate::serve;
+use crate::task::{Folders, Task};
+use crate::telling::{starved, tell_denied, usage};
+use edge_io::{Sink, StdSink, StdSource, SystemClock};
+use plfs_types::Word;
 use program_ends::Ended;
-use serve_program::serve_all;
+use serve_program::{ServeCommand, serve_all};
+use shared_door::{Answers, Board, Requests, open_door};
+use shared_frames::Exchange;
 use std::cell::RefCell;
 use std::io::{self, Read};
+use std::process::ExitCode;
+use std::sync::Wait;
+use std::thread::Threads;
+use system_edge::{MOST_FOLDERS, Program, Spelled, Standard, lock_folders};
 
-/// Standard input, beside which stands why its reading failed last.
+/// Requests, beside which stands why its reading failed last.
 #[derive(Drop)]
 struct Hearing<'a, R> {
     reader: R,
@@ -47,6 +57,106 @@ pub fn serve_requests<O: Sink>(
         store,
         SystemClock::new(*rt),
     )
+}
+
+/// Answers the requests of the processes of this board over the store, whose writers are of this host.
+#[inline(never)]
+pub fn serve_processes<H: Wait>(
+    handle: &H,
+    rt: &HostRuntime,
+    host: u32,
+    board: &Board,
+    error: &RefCell<Option<io::Error>>,
+    store: Folders,
+) -> Ended<Folders> {
+    let alloc = rt.alloc();
+    let exchange = RefCell::new(Exchange::new(alloc));
+    let exchange = &exchange;
+    let reader = Requests {
+        rt: handle,
+        alloc,
+        board,
+        exchange,
+    };
+    let mut sink = StdSink::new(Answers {
+        rt: handle,
+        alloc,
+        board,
+        exchange,
+    });
+    let mut source = StdSource::new(Hearing { reader, error });
+    let ended = serve_all(
+        alloc,
+        host,
+        &mut source,
+        &mut sink,
+        store,
+        SystemClock::new(*rt),
+    );
+    board.end(handle);
+    ended
+}
+
+/// Answers requests, where the words are those of `plfs_serve`: of standard input, or of the processes that come by the folder behind `--at`.
+#[inline(never)]
+pub fn obey_serve<H: Threads + Wait + Sync + Copy + Send + 'static>(
+    handle: &H,
+    rt: HostRuntime,
+    root: &Word,
+    folders: &[&str],
+    words: &[Word],
+    standard: &Standard,
+) -> ExitCode
+    requires few { length folders.now ≤ MOST_FOLDERS }
+{
+    let Some(ServeCommand { folder, host }) = ServeCommand::read(words) else {
+        return usage(&rt, Program::Serve);
+    };
+    match folder {
+        Some(folder) => obey_door(handle, rt, root, folders, host, folder, standard),
+        None => {
+            let task = Task::Serve { host, board: None };
+            serve(handle, rt, root, folders, &task, standard)
+        }
+    }
+}
+
+// Lets processes in by the folder, which is locked, and serves them.
+#[inline(never)]
+fn obey_door<H: Threads + Wait + Sync + Copy + Send + 'static>(
+    handle: &H,
+    rt: HostRuntime,
+    root: &Word,
+    folders: &[&str],
+    host: u32,
+    folder: &Word,
+    standard: &Standard,
+) -> ExitCode
+    requires few { length folders.now ≤ MOST_FOLDERS }
+{
+    let names = [folder.as_str()];
+    let locks = match lock_folders(&rt, &names) {
+        Ok(locks) => locks,
+        Err(denied) => return tell_denied(&rt, &names, denied, standard),
+    };
+    let door = match open_door(&rt, folder.as_str()) {
+        Ok(door) => door,
+        Err(error) => {
+            let folder = Spelled(folder.as_str());
+            let _ = eprintln!(rt; "plfs: {folder}/join: open: {error}");
+            return ExitCode::from(5);
+        }
+    };
+    let Ok(board) = door.begin(*handle, rt) else {
+        return starved(&rt);
+    };
+    let task = Task::Serve {
+        host,
+        board: Some(&board),
+    };
+    let code = serve(handle, rt, root, folders, &task, standard);
+    drop(locks);
+    code
 }
 
 /// Says what no stream and no folder tells: that the input was cut off or a request too long, or that no mount is left. Whether it was said.

@@ -1,12 +1,9 @@
 //! A command, and its run over the folders, the standard streams and the system's clock.
-use crate::amount::{Amount, files_length, input_length};
 use crate::entries::Entries;
 use crate::exporting::export_files;
-use crate::inputs::{Files, Input};
 use crate::progress::Progress;
 use crate::reading::{copies_the_input, writes_a_file};
-use crate::said::{Said, Saying};
-use crate::serving::serve_requests;
+use crate::serving::{serve_processes, serve_requests};
 use check_program::check;
 use command_line::Command;
 use copy_program::{CopyCommand, ImportCommand, copy, import};
@@ -16,6 +13,7 @@ use export_program::ExportCommand;
 use plfs_program::{HeldInput, plfs};
 use plfs_types::Word;
 use program_ends::Ended;
+use shared_door::Board;
 use spread_store::Backing;
 use std::cell::RefCell;
 use std::fs::File;
@@ -24,6 +22,7 @@ use std::mem;
 use std::sync::Wait;
 use std::thread::Threads;
 use store_folder::{Cause, FolderStore};
+use system_edge::{Amount, Files, Input, Said, Saying, files_length, input_length};
 
 /// The folders that a command is run over. All runs are over this one type, so that the program is compiled once.
 pub type Folders = Backing<FolderStore<HostRuntime>>;
@@ -65,9 +64,10 @@ pub enum Task<'a> {
         words: &'a [Word],
         folder: &'a Word,
     },
-    /// Of `plfs_serve`: the host of the writers. It reads its input as it goes.
+    /// Of `plfs_serve`: the host of the writers, and who is served: the processes of this board, or standard input where there is none.
     Serve {
         host: u32,
+        board: Option<&'a Board>,
     },
 }
 
@@ -314,7 +314,11 @@ pub fn run<H: Threads + Wait + Sync>(
             target = left;
             ended
         }
-        Task::Serve { host } => serve_requests(rt, *host, &error, &mut sink, store),
+        Task::Serve { host, board: None } => { serve_requests(rt, *host, &error, &mut sink, store) }
+        Task::Serve {
+            host,
+            board: Some(board),
+        } => serve_processes(handle, rt, *host, board, &error, store),
     };
     drop(sink);
     Ran {

@@ -4,15 +4,8 @@ ghost use Rattle.std.specs.IoError.{error_kind};
 ghost use Rattle.std.specs.Process.{exit_status};
 ghost use Rattle.plfs.specs.Telling.{unopened_status};
 
-use crate::called::Program;
 use crate::exporting::tells_each;
-use crate::folders::{Stores, failed};
-use crate::inputs::Unopened;
-use crate::lock::{Denial, Denied};
-use crate::said::Said;
 use crate::serving::tells_requests;
-use crate::spelled::Spelled;
-use crate::standard::{INPUT, OUTPUT, Standard};
 use crate::task::{Ran, Task};
 use plfs_types::Word;
 use program_ends::{Ended, USAGE};
@@ -21,6 +14,9 @@ use std::io::{self, ErrorKind, Write};
 use std::process::ExitCode;
 use std::str;
 use store_folder::{Cause, FolderStore, Place};
+use system_edge::{
+    Denial, Denied, INPUT, OUTPUT, Program, Said, Spelled, Standard, Stores, Unopened, failed,
+};
 
 /// What helps where something is damaged.
 pub const CURE: &str = "restore it from a copy";

@@ -8,5 +8,6 @@ pub mod Lines
 pub mod MigrateCourses
 pub mod PackCourses
 pub mod Plain
+pub mod PlainRuns
 pub mod SmallCourses
 pub mod UnitCourses

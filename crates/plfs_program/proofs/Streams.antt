@@ -2,6 +2,8 @@
 pub mod CatLemmas
 pub mod CommandLemmas
 pub mod InputLemmas
+pub mod Inputs
 pub mod PackInputs
 pub mod Pieces
 pub mod SmallTexts
+pub mod Words

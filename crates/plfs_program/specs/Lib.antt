@@ -1,4 +1,3 @@
-pub mod Seen
 pub mod Calling
 pub mod Cat
 pub mod Catting
@@ -10,10 +9,14 @@ pub mod Input
 pub mod Lines
 pub mod Migrating
 pub mod Packing
+pub mod Plainly
+pub mod Planned
 pub mod Playing
 pub mod ReadOut
+pub mod Seen
 pub mod Showing
 pub mod SmallFiles
 pub mod Summary
-pub mod Ways
+pub mod Twice
 pub mod UnitTrees
+pub mod Ways

@@ -1,7 +1,7 @@
 -- The lines of a run.
 use Rattle.std.specs.Prelude.{ℕ, List, Option}
 use Rattle.store_api.specs.Acts.{Stored}
-use Rattle.mount_model.specs.declared.trouble.MountTrouble.{MountTrouble}
+use Rattle.mount_model.specs.declared.mount_trouble.MountTrouble.{MountTrouble}
 use Rattle.mount_model.specs.Failing.{FailsToMount}
 use Rattle.script_lang.specs.declared.line.Line.{Line}
 use Rattle.script_lang.specs.declared.script.Script.{Script}

@@ -4,11 +4,11 @@ use Rattle.std.specs.Fmt.{decimal}
 use Rattle.plfs_types.specs.Counts.{HasRisen}
 use Rattle.edge_io.specs.Sink.{Taking}
 use Rattle.store_api.specs.Acts.{Stored}
-use Rattle.flow.specs.declared.stuck.Stuck.{Stuck}
+use Rattle.mount_model.specs.declared.stuck.Stuck.{Stuck}
 use Rattle.mount_model.specs.State.{State}
 use Rattle.mount_model.specs.Mounting.{IsMounted}
 use Rattle.mount_model.specs.Failing.{FailsToMount}
-use Rattle.mount_model.specs.declared.trouble.MountTrouble.{MountTrouble}
+use Rattle.mount_model.specs.declared.mount_trouble.MountTrouble.{MountTrouble}
 use Rattle.mount_sound.specs.Sound.{IsClean}
 use Rattle.migrate_core.specs.declared.migrated.Migrated.{Migrated}
 use Rattle.migrate_core.specs.Migrating.{migrate_program}
@@ -28,6 +28,7 @@ use Rattle.program_ends.specs.Output.{IsPrinted, IsCutOff}
 use Rattle.program_ends.specs.Leaving.{IsStoreLeft}
 use Rattle.program_ends.specs.Reported.{IsReported, line_zero}
 use Rattle.program_ends.specs.SoundTrees.{TellsSoundTree}
+use Rattle.program_ends.specs.Outcomes.{is_broken_by}
 
 -- ---- what is said
 
@@ -51,11 +52,6 @@ said_text (Err outcome) = text_of (line_zero outcome ∷ [])
 abbrev pub said_status : Said → ℕ
 said_status (Ok out) = 0
 said_status (Err outcome) = status_of (line_zero outcome ∷ [])
-
--- it was broken off by such an outcome
-abbrev pub is_broken_by : {A : Type 0} → (Outcome → Bool) → Result A Outcome → Bool
-is_broken_by test (Ok out) = false
-is_broken_by test (Err outcome) = test outcome
 
 -- ---- what was done
 

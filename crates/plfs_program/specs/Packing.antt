@@ -8,20 +8,20 @@ use Rattle.store_api.specs.Acts.{Stored}
 use Rattle.mount_model.specs.State.{State}
 use Rattle.mount_model.specs.Mounting.{IsMounted}
 use Rattle.mount_model.specs.Failing.{FailsToMount}
-use Rattle.mount_model.specs.declared.trouble.MountTrouble.{MountTrouble}
+use Rattle.mount_model.specs.declared.mount_trouble.MountTrouble.{MountTrouble}
 use Rattle.pack_files.specs.declared.scan.ScanStuck.{ScanStuck}
 use Rattle.pack_input.specs.Input.{Fault, HasFault, IsInput}
 use Rattle.pack_input.specs.declared.files.NamedFile.{NamedFile}
 use Rattle.pack_input.specs.declared.trouble.Kind.{Kind}
 use Rattle.pack_input.specs.declared.trouble.Kind.TheVariants.{Long, Spaces, Count, Name, Data}
-use Rattle.pack_puts.specs.Packing.{BeginsToPack, Packs}
-use Rattle.pack_puts.specs.declared.packing.Packed.{Packed}
-use Rattle.pack_puts.specs.declared.packing.Packed.TheVariants.{All, Full}
+use Rattle.lone_flow.specs.Packing.{BeginsToPack, Packs}
+use Rattle.lone_flow.specs.declared.packing.Packed.{Packed}
+use Rattle.lone_flow.specs.declared.packing.Packed.TheVariants.{All, Full}
 use Rattle.script_lang.specs.declared.line.Outcome.{Outcome}
 use Rattle.report_text.specs.Text.{text_of}
 use Rattle.program_ends.specs.Ends.{Ends, IsUntouched, IsSaid}
 use Rattle.program_ends.specs.Reported.{IsReported, line_zero}
-use Rattle.plfs_program.specs.Migrating.{is_broken_by}
+use Rattle.program_ends.specs.Outcomes.{is_broken_by}
 use Rattle.program_ends.specs.Mounting.{unmounted_of}
 use Rattle.program_ends.specs.Outcomes.{is_damage, is_fault, status_of}
 use Rattle.program_ends.specs.Output.{IsPrinted, IsCutOff}

@@ -5,8 +5,8 @@ use Rattle.mount_model.specs.History.{Event}
 use Rattle.mount_model.specs.State.{State}
 use Rattle.mount_sound.specs.Ledger.{Ledger}
 use Rattle.mount_sound.specs.Sound.{IsSoundFor}
-use Rattle.play_laws.specs.OneFile.{OneFile, seen_bytes}
-use Rattle.play_laws.specs.Opening.{OpensOneFile}
+use Rattle.headline_laws.specs.OneFile.{OneFile, seen_bytes}
+use Rattle.headline_laws.specs.Opening.{OpensOneFile}
 use Rattle.script_lang.specs.declared.line.Line.{Line}
 use Rattle.script_lang.specs.declared.script.Script.{Script}
 use Rattle.plfs_program.specs.Cat.{IsRead, contents, piece_length, pieces_of, reader_size}

@@ -9,16 +9,16 @@ use Rattle.mount_model.specs.State.{State}
 use Rattle.mount_model.specs.Paths.{Name}
 use Rattle.mount_model.specs.Mounting.{IsMounted}
 use Rattle.mount_model.specs.Failing.{FailsToMount}
-use Rattle.mount_model.specs.declared.trouble.MountTrouble.{MountTrouble}
+use Rattle.mount_model.specs.declared.mount_trouble.MountTrouble.{MountTrouble}
 use Rattle.mount_sound.specs.Ledger.{Ledger}
 use Rattle.mount_sound.specs.Sound.{IsSoundFor}
 use Rattle.pack_files.specs.declared.scan.ScanStuck.{ScanStuck}
 use Rattle.pack_files.specs.declared.scan.ScanStuck.TheVariants as scan
-use Rattle.pack_core.specs.Looking.{HasLooked}
-use Rattle.pack_core.specs.Naming.{BeginsToName, Names}
-use Rattle.pack_core.specs.Unpacking.{BeginsToUnpack, Unpacks}
-use Rattle.unpack_laws.specs.Seen.{Sees}
-use Rattle.unpack_laws.specs.Told.{AreNames, IsContent}
+use Rattle.lone_flow.specs.Looking.{HasLooked}
+use Rattle.lone_flow.specs.Naming.{BeginsToName, Names}
+use Rattle.lone_flow.specs.Unpacking.{BeginsToUnpack, Unpacks}
+use Rattle.packing_laws.specs.Seen.{Sees}
+use Rattle.packing_laws.specs.Told.{AreNames, IsContent}
 use Rattle.outcomes.specs.Outcomes.{stuck_outcome}
 use Rattle.script_lang.specs.declared.line.Outcome.{Outcome}
 use Rattle.script_lang.specs.declared.line.Outcome.TheVariants.{Damaged, Refused}
@@ -27,7 +27,7 @@ use Rattle.report_text.specs.Items.{list_text}
 use Rattle.report_text.specs.Text.{text_of}
 use Rattle.program_ends.specs.Ends.{Ends}
 use Rattle.program_ends.specs.Reported.{IsReported, line_zero}
-use Rattle.plfs_program.specs.Migrating.{is_broken_by}
+use Rattle.program_ends.specs.Outcomes.{is_broken_by}
 use Rattle.program_ends.specs.Mounting.{unmounted_of}
 use Rattle.program_ends.specs.Outcomes.{is_damage, is_fault, status_of}
 use Rattle.program_ends.specs.Output.{IsPrinted, IsCutOff}

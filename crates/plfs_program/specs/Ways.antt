@@ -10,7 +10,7 @@ use Rattle.script_lang.specs.declared.script.Script.{Script}
 use Rattle.run_core.specs.Breaking.{IsPlayBroken}
 use Rattle.run_core.specs.Play.{IsPlay, IsRight}
 use Rattle.thread_runs.specs.Closing.{BeginsToRun}
-use Rattle.play_laws.specs.Readers.{PlayShows, ReadersShow}
+use Rattle.headline_laws.specs.Readers.{PlayShows, ReadersShow}
 
 -- in the order of the written turns, or each on a thread of its own
 pub data Way : Type 0 where

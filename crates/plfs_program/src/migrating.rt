@@ -6,10 +6,10 @@ ghost use Rattle.program_ends.specs.Reported.{IsReported};
 ghost use Rattle.plfs_program.specs.Migrating.{MigratesOn, migrated_line as line_of, said_of, said_status as status_of, said_text as text_of};
 
 use edge_io::{Clock, Sink};
-use flow::Stuck;
 use lone_flow::migrate;
 use migrate_core::Migrated;
 use mount_core::Mount;
+use mount_model::Stuck;
 use outcomes::stuck_outcome;
 use plfs_types::{LogicalName, NoMemory};
 use program_ends::{push_number, say_line, write_out};

@@ -10,10 +10,10 @@ ghost use Rattle.plfs_program.specs.Packing.{PacksOn, end_of, fault_word as word
 use crate::small_files::outcome_of;
 use edge_io::{Clock, Sink};
 use itoa::Buffer;
+use lone_flow::{Packed, pack};
 use mount_core::Mount;
 use pack_files::ScanStuck;
 use pack_input::{FileList, Kind, NamedFile};
-use pack_puts::{Packed, pack};
 use plfs_types::{LogicalName, NoMemory};
 use program_ends::{push_number, say_line, say_text};
 use script_lang::Line;

@@ -5,14 +5,16 @@ ghost use Rattle.command_line.specs.Commands.{IsCommand};
 ghost use Rattle.command_line.specs.declared.commands.Command.TheVariants.{Run};
 ghost use Rattle.script_lang.specs.Grammar.{IsScript};
 ghost use Rattle.script_lang.specs.Ranges.{FitsScript};
+ghost use Rattle.script_lang.specs.declared.script.Script.{Script as Played};
 ghost use Rattle.run_core.specs.Conditions.{IsPlayable};
 ghost use Rattle.plfs_program.specs.Commands.{IsServed};
 ghost use Rattle.plfs_program.specs.Complete.{IsAsked, HadNoTrouble};
 ghost use Rattle.program_ends.specs.Outcomes.{IsDone};
 ghost use Rattle.plfs_program.specs.Course.{Course, InputCourse};
 ghost use Rattle.program_ends.specs.Ends.{ends_of};
+ghost use Rattle.plfs_program.specs.Plainly.{AskToPlay, PrintsPlainly};
 ghost use Rattle.plfs_program.specs.Playing.{PlayCourse};
-ghost use Rattle.plfs_program.specs.Showing.{all_lines};
+ghost use Rattle.plfs_program.specs.Showing.{Shows, all_lines};
 ghost use Rattle.program_ends.specs.SoundTrees.{TellsSoundTree, LeavesSoundTree};
 ghost use Rattle.plfs_program.specs.UnitTrees.{AskForUnits};
 ghost use Rattle.plfs_program.specs.Ways.{on_threads};
@@ -27,7 +29,7 @@ use edge_io::{Clock, Gate, Sink};
 use mount_sound::a_failed_mounting_leaves_a_sound_tree;
 use plfs_types::Word;
 use program_ends::{Ended, ends};
-use script_lang::{Script, ScriptTrouble};
+use script_lang::{Script, ScriptTrouble, scripts_are_told_apart};
 use std::alloc::Global;
 use std::sync::Wait;
 use std::thread::Threads;
@@ -155,6 +157,9 @@ fn follow<
 /// Where moreover the container whose small files are packed or read has only units, no line tells of damage, and the status is not 7.
 /// Where besides that the words are those of a command, the script or the small files have no fault, no count of the source, the sink or the
 /// store has risen and the sink took something of each piece, the status is 0, 1 or 3.
+///
+/// Where no such count has risen and memory sufficed, what is shown of the lines of a script that is played is printed whole. If it has no `turn` and no `stop`
+/// lines, these are the lines that a plain machine says, as with `single`.
 pub fn plfs<
     R: Threads + Wait + Sync,
     S: Store + Drop + Send,
@@ -176,7 +181,9 @@ pub fn plfs<
     ensures undamaged { TellsSoundTree (S.stored store) → AskForUnits words.now (S.stored store) → result.status ≢ 7 }
     ensures sound { TellsSoundTree (S.stored store) → LeavesSoundTree (option_map S.stored result.store) }
     ensures complete { TellsSoundTree (S.stored store) → AskForUnits words.now (S.stored store) → IsAsked IsServed words.now (I.given input.old) (I.given input.new) → HadNoTrouble (I.given input.old) (I.given input.new) (ends_of (C.times clock) (O.taking out.old) (O.taking out.new) (S.stored store) (option_map S.stored result.store)) → IsDone result.status }
+    ensures plain { (script : Played) (shows : Shows) → AskToPlay words.now (I.given input.old) script shows → HadNoTrouble (I.given input.old) (I.given input.new) (ends_of (C.times clock) (O.taking out.old) (O.taking out.new) (S.stored store) (option_map S.stored result.store)) → result.status ≢ 3 → PrintsPlainly script shows (ends_of (C.times clock) (O.taking out.old) (O.taking out.new) (S.stored store) (option_map S.stored result.store)) result.status }
 {
     a_failed_mounting_leaves_a_sound_tree();
+    scripts_are_told_apart();
     follow(rt, alloc, words, input, out, store, clock, gate)
 }

@@ -2,16 +2,16 @@
 ghost use Rattle.std.specs.Prelude.{◌≡◌, ◌++◌, ◌∷◌, IfOk, Ok, OnOk, codes};
 ghost use Rattle.std.specs.List.{flat_map};
 ghost use Rattle.mount_sound.specs.Sound.{IsFine};
-ghost use Rattle.pack_core.specs.Naming.{BeginsToName, Names};
-ghost use Rattle.pack_core.specs.Unpacking.{BeginsToUnpack, Unpacks};
+ghost use Rattle.lone_flow.specs.Naming.{BeginsToName, Names};
+ghost use Rattle.lone_flow.specs.Unpacking.{BeginsToUnpack, Unpacks};
 ghost use Rattle.report_text.specs.Items.{list_text};
 ghost use Rattle.program_ends.specs.Reported.{IsReported};
 ghost use Rattle.plfs_program.specs.SmallFiles.{ReadsOn, names_line as line_of, outcome_of, told_of_file, told_of_names, told_status as status_of, told_text as text_of};
 
 use edge_io::{Clock, Sink};
+use lone_flow::{names, unpack};
 use mount_core::Mount;
 use outcomes::stuck_outcome;
-use pack_core::{names, unpack};
 use pack_files::ScanStuck;
 use plfs_types::{Bytes, LogicalName, Name, NameList, NoMemory};
 use program_ends::{say_line, say_text};

@@ -9,14 +9,16 @@ ghost use Rattle.plfs_program.specs.Commands.{IsBuiltCommand, IsPlanned, FitsCom
 ghost use Rattle.script_lang.specs.Faults.{HasFault};
 ghost use Rattle.script_lang.specs.Grammar.{IsScript};
 ghost use Rattle.script_lang.specs.Ranges.{FitsScript};
+ghost use Rattle.script_lang.specs.declared.script.Script.{Script as Played};
 ghost use Rattle.run_core.specs.Conditions.{IsPlayable};
 ghost use Rattle.plfs_program.specs.Complete.{IsAsked, HadNoTrouble};
 ghost use Rattle.program_ends.specs.Outcomes.{IsDone};
 ghost use Rattle.plfs_program.specs.Course.{Course, InputCourse};
+ghost use Rattle.plfs_program.specs.Plainly.{AskToPlay, PrintsPlainly};
 ghost use Rattle.plfs_program.specs.Playing.{PlayCourse};
 ghost use Rattle.program_ends.specs.Ends.{ends_of, IsSaid};
 ghost use Rattle.program_ends.specs.Output.{IsPrinted, IsCutOff};
-ghost use Rattle.plfs_program.specs.Showing.{shows_of};
+ghost use Rattle.plfs_program.specs.Showing.{Shows, shows_of};
 ghost use Rattle.program_ends.specs.SoundTrees.{TellsSoundTree, LeavesSoundTree};
 ghost use Rattle.plfs_program.specs.UnitTrees.{AskForUnits};
 ghost use Rattle.plfs_program.specs.Ways.{Way, by_turns};
@@ -37,13 +39,13 @@ use mount_core::Mount;
 use mount_sound::a_failed_mounting_leaves_a_sound_tree;
 use packing_laws::{
     a_container_of_units_shows_no_damage, a_fault_is_the_stores, a_mounting_leaves_units_alone,
+    who_names_sees_one_file, who_unpacks_sees_one_file,
 };
 use plfs_types::{LogicalName, Word};
 use program_ends::{Ended, USAGE, ends, say, say_unmounted};
-use script_lang::{Kind, Script, ScriptTrouble};
+use script_lang::{Kind, Script, ScriptTrouble, scripts_are_told_apart};
 use std::alloc::Global;
 use store_api::Store;
-use unpack_laws::{who_names_sees_one_file, who_unpacks_sees_one_file};
 
 // Plays the script on the store, and prints what is shown of its lines.
 fn play_script<S: Store + Drop, C: Clock + Drop, O: Sink>(
@@ -345,6 +347,9 @@ fn follow<S: Store + Drop, C: Clock + Drop, I: Input, O: Sink>(
 /// line tells of damage, and the status is not 7.
 /// Where besides that the words are those of a command, the script or the small files have no fault, no count of the source, the sink or the
 /// store has risen and the sink took something of each piece, the status is 0, 1 or 3. A fault is told only where a count of the store has risen.
+///
+/// Where no such count has risen and memory sufficed, what is shown of a script's lines is printed whole. If it has no `turn` and no `stop` lines, these
+/// are the lines that a plain machine says, which takes each statement in one step, as they are written. It begins with what the store has.
 pub fn single<S: Store + Drop, C: Clock + Drop, I: Input, O: Sink>(
     alloc: Global,
     words: &[Word],
@@ -357,7 +362,9 @@ pub fn single<S: Store + Drop, C: Clock + Drop, I: Input, O: Sink>(
     ensures undamaged { TellsSoundTree (S.stored store) → AskForUnits words.now (S.stored store) → result.status ≢ 7 }
     ensures sound { TellsSoundTree (S.stored store) → LeavesSoundTree (option_map S.stored result.store) }
     ensures complete { TellsSoundTree (S.stored store) → AskForUnits words.now (S.stored store) → IsAsked IsBuiltCommand words.now (I.given input.old) (I.given input.new) → HadNoTrouble (I.given input.old) (I.given input.new) (ends_of (C.times clock) (O.taking out.old) (O.taking out.new) (S.stored store) (option_map S.stored result.store)) → IsDone result.status }
+    ensures plain { (script : Played) (shows : Shows) → AskToPlay words.now (I.given input.old) script shows → HadNoTrouble (I.given input.old) (I.given input.new) (ends_of (C.times clock) (O.taking out.old) (O.taking out.new) (S.stored store) (option_map S.stored result.store)) → result.status ≢ 3 → PrintsPlainly script shows (ends_of (C.times clock) (O.taking out.old) (O.taking out.new) (S.stored store) (option_map S.stored result.store)) result.status }
 {
     a_failed_mounting_leaves_a_sound_tree();
+    scripts_are_told_apart();
     follow(alloc, words, input, out, store, clock)
 }

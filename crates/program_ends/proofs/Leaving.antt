@@ -5,7 +5,7 @@ use Rattle.store_api.specs.Acts.{Stored}
 use Rattle.mount_model.specs.State.{State}
 use Rattle.mount_model.specs.Failing.{FailsToMount}
 use Rattle.mount_model.specs.Mounting.{IsMounted}
-use Rattle.mount_model.specs.declared.trouble.MountTrouble.{MountTrouble}
+use Rattle.mount_model.specs.declared.mount_trouble.MountTrouble.{MountTrouble}
 use Rattle.mount_sound.specs.Sound.{IsSoundFor, IsSoundTree}
 use Rattle.mount_sound.specs.Issued.{issued}
 use Rattle.mount_sound.proofs.Facts.{mounted_sound, history_keeps, left_sound}

@@ -1,7 +1,7 @@
 -- What is said of a mounting that broke off.
 use Rattle.std.proofs.Common.{ℕ, ◌≡◌, ◌⊎◌, List}
 use Rattle.edge_io.specs.Sink.{Taking}
-use Rattle.mount_model.specs.declared.trouble.MountTrouble.{MountTrouble}
+use Rattle.mount_model.specs.declared.mount_trouble.MountTrouble.{MountTrouble}
 use Rattle.report_text.specs.Text.{text_of}
 use Rattle.script_lang.specs.declared.line.Line.{Line}
 use Rattle.program_ends.specs.Mounting.{IsUnmounted}

@@ -12,8 +12,8 @@ use Rattle.script_lang.specs.declared.line.Why.TheVariants.{MountsSpent}
 use Rattle.mount_model.specs.Listed.{IsGreatest, IsLeastOther, IsMarkOf}
 use Rattle.store_api.specs.Names.{marks_folder}
 use Rattle.store_api.specs.Names.{marks_name}
-use Rattle.mount_model.specs.declared.trouble.MountTrouble.{MountTrouble}
-use Rattle.mount_model.specs.declared.trouble.MountTrouble.TheVariants as trouble
+use Rattle.mount_model.specs.declared.mount_trouble.MountTrouble.{MountTrouble}
+use Rattle.mount_model.specs.declared.mount_trouble.MountTrouble.TheVariants as trouble
 
 -- what is listed in the folder of the marks, where the room has one
 abbrev pub listed_in : Room → Option (List Name)

@@ -1,5 +1,5 @@
 -- What lines say, and the status of a run that printed them.
-use Rattle.std.specs.Prelude.{ℕ, ◌≡◌, ◌⊎◌, Bool, true, false, if◌then◌else◌, List}
+use Rattle.std.specs.Prelude.{ℕ, ◌≡◌, ◌⊎◌, Bool, true, false, if◌then◌else◌, List, Result, Ok, Err}
 use Rattle.std.specs.List.{list_any}
 use Rattle.script_lang.specs.declared.line.Line.{Line}
 use Rattle.script_lang.specs.declared.line.Outcome.{Outcome}
@@ -32,3 +32,8 @@ status_of lines =
 -- all statements were made, or one was refused, or memory was
 abbrev pub IsDone : ℕ → Type 0
 IsDone status = (status ≡ 0) ⊎ (status ≡ 1) ⊎ (status ≡ 3)
+
+-- it was broken off by such an outcome
+abbrev pub is_broken_by : {A : Type 0} → (Outcome → Bool) → Result A Outcome → Bool
+is_broken_by test (Ok out) = false
+is_broken_by test (Err outcome) = test outcome

@@ -1,7 +1,7 @@
 -- What a program does whose mounting broke off.
 use Rattle.std.specs.Prelude.{◌≡◌, ◌⊎◌, ℕ, List}
 use Rattle.edge_io.specs.Sink.{Taking}
-use Rattle.mount_model.specs.declared.trouble.MountTrouble.{MountTrouble}
+use Rattle.mount_model.specs.declared.mount_trouble.MountTrouble.{MountTrouble}
 use Rattle.script_lang.specs.declared.line.Line.{Line}
 use Rattle.report_text.specs.Text.{text_of}
 use Rattle.program_ends.specs.Mounting.{IsUnmounted}

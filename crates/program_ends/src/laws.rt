@@ -5,7 +5,7 @@ ghost use Rattle.store_api.specs.Acts.{Stored};
 ghost use Rattle.store_api.specs.Step.{Name};
 ghost use Rattle.mount_model.specs.Mounting.{IsMounted};
 ghost use Rattle.mount_model.specs.State.{State};
-ghost use Rattle.mount_model.specs.declared.trouble.MountTrouble.{MountTrouble};
+ghost use Rattle.mount_model.specs.declared.mount_trouble.MountTrouble.{MountTrouble};
 ghost use Rattle.mount_model.specs.Failing.{FailsToMount};
 ghost use Rattle.program_ends.specs.Mounting.{AreSpent, AreDamagedAt, AreWhy, HaveNext, listed_marks};
 

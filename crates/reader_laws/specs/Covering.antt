@@ -4,9 +4,9 @@ use Rattle.plfs_types.specs.declared.entries.Cover.{Cover}
 use Rattle.plfs_types.specs.declared.entries.Entry.{Entry}
 use Rattle.index_entry.specs.Entries.{logged, last_stamp}
 use Rattle.index_reader.specs.Sharing.{covered}
-use Rattle.gathering.specs.Moments.{Moment}
-use Rattle.gathering.specs.Gathering.{Gathered}
-use Rattle.gathering.specs.View.{own_entries}
+use Rattle.reader_laws.specs.Moments.{Moment}
+use Rattle.reader_laws.specs.Gathering.{Gathered}
+use Rattle.reader_laws.specs.View.{own_entries}
 
 -- the cover with these entries more
 abbrev pub cover_with : Cover → List Entry → Cover

@@ -6,10 +6,10 @@ use Rattle.mount_model.specs.declared.reply.Refusal.TheVariants.{NoRoom}
 use Rattle.mount_model.specs.declared.reply.Reply.TheVariants.{NoMemory}
 use Rattle.container_layout.specs.declared.items.Item.TheVariants.{Access}
 use Rattle.mount_model.specs.State.{State}
-use Rattle.gathering.specs.Moments.{Moment, HadItem}
+use Rattle.reader_laws.specs.Moments.{Moment, HadItem}
 use Rattle.mount_model.specs.History.{Event, state_after}
-use Rattle.flow.specs.declared.stuck.Stuck.{Stuck}
-use Rattle.flow.specs.declared.stuck.Stuck.TheVariants.{Fault, Refused}
+use Rattle.mount_model.specs.declared.stuck.Stuck.{Stuck}
+use Rattle.mount_model.specs.declared.stuck.Stuck.TheVariants.{Fault, Refused}
 
 -- the room is a container's: its access file stood
 abbrev pub IsContainerAt : Moment → ℕ → Type 0

@@ -7,12 +7,12 @@ use Rattle.mount_model.specs.History.{Event}
 use Rattle.index_reader.specs.declared.listing.Dropping.{Dropping as Listed}
 use Rattle.index_reader.specs.declared.listing.Listing.{Listing}
 use Rattle.index_reader.specs.Listing.{AreByWriter}
-use Rattle.gathering.specs.Moments.{Dropping, IsNamed}
-use Rattle.gathering.specs.Seen.{Asked, asked_in, calls_of}
-use Rattle.gathering.specs.Listing.{IsScan, NamesPack}
+use Rattle.reader_laws.specs.Moments.{Dropping, IsNamed}
+use Rattle.reader_laws.specs.Seen.{Asked, asked_in, calls_of}
+use Rattle.reader_laws.specs.GatheringListing.{IsScan, NamesPack}
 use Rattle.plfs_types.specs.Places.{IsAmong}
-use Rattle.gathering.specs.Flats.{ReadsFlat, covers_of, pieces_of}
-use Rattle.gathering.specs.Opening.{ListsTruncs}
+use Rattle.reader_laws.specs.Flats.{ReadsFlat, covers_of, pieces_of}
+use Rattle.reader_laws.specs.GatheringOpening.{ListsTruncs}
 use Rattle.reader_laws.specs.Sharing.{in_room}
 
 -- The listed droppings are those that were found, by ascending writer.

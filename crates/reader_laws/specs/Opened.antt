@@ -8,11 +8,11 @@ use Rattle.mount_model.specs.History.{Event}
 use Rattle.mount_sound.specs.Ledger.{entries_in}
 use Rattle.index_reader.specs.declared.gathered.Gathered.{Gathered as Parts}
 use Rattle.index_reader.specs.declared.opened.OpenReader.{OpenReader}
-use Rattle.gathering.specs.Moments.{Moment, moment_after}
-use Rattle.gathering.specs.Seen.{asked_in, calls_of}
-use Rattle.gathering.specs.Gathering.{Gathered}
-use Rattle.gathering.specs.View.{writes_in, changes_in}
-use Rattle.gathering.specs.Opening.{HasView, ListsTruncs}
+use Rattle.reader_laws.specs.Moments.{Moment, moment_after}
+use Rattle.reader_laws.specs.Seen.{asked_in, calls_of}
+use Rattle.reader_laws.specs.Gathering.{Gathered}
+use Rattle.reader_laws.specs.View.{writes_in, changes_in}
+use Rattle.reader_laws.specs.GatheringOpening.{HasView, ListsTruncs}
 use Rattle.reader_laws.specs.Covering.{counts_in}
 use Rattle.index_reader.specs.Hosts.{hosts_of}
 use Rattle.reader_laws.specs.Sharing.{host_in_room}

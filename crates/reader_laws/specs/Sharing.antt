@@ -9,9 +9,9 @@ use Rattle.index_reader.specs.declared.entries.Tail.{Tail}
 use Rattle.index_reader.specs.declared.sharing.Share.{Share}
 use Rattle.index_reader.specs.Covered.{cover_of}
 use Rattle.index_reader.specs.Sharing.{covered}
-use Rattle.gathering.specs.Moments.{Dropping}
-use Rattle.gathering.specs.Gathering.{Gathered}
-use Rattle.gathering.specs.View.{tails_of}
+use Rattle.reader_laws.specs.Moments.{Dropping}
+use Rattle.reader_laws.specs.Gathering.{Gathered}
+use Rattle.reader_laws.specs.View.{tails_of}
 use Rattle.reader_laws.specs.Covering.{cover_with}
 
 -- a dropping that was listed, in its room

@@ -2,9 +2,9 @@
 use Rattle.std.specs.Prelude.{◌≡◌, ◌⊎◌, ℕ, List, ◌++◌, Ok, Err}
 use Rattle.std.specs.List.{All}
 use Rattle.mount_model.specs.History.{Event}
-use Rattle.flow.specs.declared.stuck.Stuck.{Stuck}
-use Rattle.flow.specs.Running.{Runs}
-use Rattle.flow.specs.Replies.{Tries}
+use Rattle.mount_model.specs.declared.stuck.Stuck.{Stuck}
+use Rattle.mount_model.specs.Running.{Runs}
+use Rattle.mount_model.specs.FlowReplies.{Tries}
 use Rattle.index_reader.specs.declared.listing.Dropping.{Dropping as Listed}
 use Rattle.index_reader.specs.declared.listing.Listing.{Listing}
 use Rattle.index_reader.specs.Sharing.{share_program}

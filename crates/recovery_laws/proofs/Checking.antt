@@ -7,7 +7,7 @@ use Rattle.std.proofs.lemmas.List.{drop-drop, drop-take, length-drop, length-tak
 use Rattle.plfs_types.specs.declared.entries.Entry.{Entry}
 use Rattle.index_entry.specs.Spelling.{entry_in, number_in}
 use Rattle.index_entry.specs.Within.{within_log}
-use Rattle.flow.specs.Entries.{is_next}
+use Rattle.mount_model.specs.Entries.{is_next}
 use Rattle.mount_sound.proofs.Facts.{take_less}
 use Rattle.torn_tail.specs.Entries.{no_entries, longer, checked, looked}
 use Rattle.torn_tail.specs.Words.{Went, Run, all_there, ends, breaks}

@@ -1,10 +1,10 @@
 -- What holds of a clean state stays so, whoever makes a call, and how programs are shown to be safe by it.
 use Rattle.std.proofs.Common.{ℕ, Option, Some, None, ◌⊎◌, inl, inr}
 use Rattle.std.specs.Prelude.{Result, Ok, Err}
-use Rattle.flow.specs.declared.stuck.Stuck.{Stuck}
-use Rattle.flow.specs.Running.{asking, unbroken}
-use Rattle.story.specs.Program.{Program, ask}
-use Rattle.story.specs.Safe.{IsSafe}
+use Rattle.mount_model.specs.declared.stuck.Stuck.{Stuck}
+use Rattle.mount_model.specs.Running.{asking, unbroken}
+use Rattle.mount_model.specs.Program.{Program, ask}
+use Rattle.mount_model.specs.Safe.{IsSafe}
 use Rattle.mount_model.specs.declared.call.Ask.{Ask}
 use Rattle.mount_model.specs.declared.call.Call.{Call}
 use Rattle.mount_model.specs.declared.reply.Reply.{Reply}
@@ -14,8 +14,8 @@ use Rattle.mount_sound.specs.Ledger.{Ledger}
 use Rattle.mount_sound.specs.Owed.{May, Permits}
 use Rattle.mount_sound.specs.Sound.{IsClean, IsFine, IsSoundFor}
 use Rattle.mount_sound.proofs.Facts.{step_fine, was_clean}
-use Rattle.holding_laws.proofs.Facts.{LastsOne, safe_ask}
-use Rattle.flow.specs.Replies.{Tries, given, on_ok}
+use Rattle.recovery_laws.proofs.Holds.Facts.{LastsOne, safe_ask}
+use Rattle.mount_model.specs.FlowReplies.{Tries, given, on_ok}
 
 -- the state is fine, and this holds of it where it is clean
 abbrev pub Cleanly : (State → Type 0) → State → Type 0

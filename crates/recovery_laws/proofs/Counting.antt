@@ -5,7 +5,7 @@ use Rattle.std.proofs.lemmas.Bool.{cases_Bool, cond-true, cond-false}
 use Rattle.plfs_types.specs.declared.entries.Entry.{Entry}
 use Rattle.index_entry.specs.Spelling.{entry_in}
 use Rattle.index_entry.specs.Within.{within_log}
-use Rattle.flow.specs.Entries.{is_next}
+use Rattle.mount_model.specs.Entries.{is_next}
 use Rattle.mount_sound.specs.Entries.{greatest_end, last_stamp, logged}
 use Rattle.torn_tail.specs.Entries.{no_entries, longer, checked}
 use Rattle.torn_tail.specs.Words.{Went, Run, all_there, ends, breaks}

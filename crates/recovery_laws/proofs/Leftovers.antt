@@ -8,7 +8,7 @@ use Rattle.container_layout.specs.declared.items.Item.TheVariants.{Index, OpenHo
 use Rattle.index_entry.specs.Within.{within_log}
 use Rattle.store_api.specs.declared.tree.Room.{Room}
 use Rattle.store_api.specs.declared.tree.Tree.{Tree}
-use Rattle.flow.specs.declared.names.OpenEntry.{OpenEntry}
+use Rattle.mount_model.specs.declared.names.OpenEntry.{OpenEntry}
 use Rattle.mount_model.specs.declared.call.Ask.{Ask}
 use Rattle.mount_model.specs.declared.reply.Reply.{Reply}
 use Rattle.mount_model.specs.Recovering.{IsHostAndWriter}

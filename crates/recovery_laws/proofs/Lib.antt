@@ -3,6 +3,7 @@ mod Cleanly
 mod Counting
 pub mod Facts
 mod FirstEntries
+pub mod Holds
 mod Leftovers
 mod Looking
 mod OneHost

@@ -14,7 +14,7 @@ use Rattle.store_laws.specs.There.{LacksFile, LacksFolder, ListsFolder}
 use Rattle.store_laws.specs.Says.{LengthTells, ListTells, ReadTells}
 use Rattle.store_laws.specs.Tells.{Tells}
 use Rattle.store_laws.proofs.Facts.{acts_told, length_tells, list_tells, look_answered, read_tells}
-use Rattle.flow.specs.Running.{unbroken}
+use Rattle.mount_model.specs.Running.{unbroken}
 use Rattle.mount_model.specs.declared.call.Call.TheVariants.{Look}
 use Rattle.mount_model.specs.declared.call.Look.{Look as Sight}
 use Rattle.mount_model.specs.declared.call.Look.TheVariants.{Length, List as ListFolder, Read}

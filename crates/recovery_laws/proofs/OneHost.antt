@@ -33,7 +33,7 @@ use Rattle.mount_model.specs.Step.{Answers, IsStep}
 use Rattle.mount_model.specs.Stopped.{IsLeftBy}
 use Rattle.mount_model.specs.Table.{row_of, is_live}
 use Rattle.mount_model.proofs.Facts.{may_enter, row_of_id, step_cases, stop_left, unless_refused}
-use Rattle.mount_shape.proofs.Facts.{id_fits}
+use Rattle.mount_sound.proofs.Shapes.Facts.{id_fits}
 use Rattle.mount_sound.specs.Items.{HasItem}
 use Rattle.mount_sound.specs.Ledger.{Ledger}
 use Rattle.mount_sound.specs.Owed.{InRoom, MayMend, Owes}

@@ -8,7 +8,7 @@ use Rattle.plfs_types.specs.declared.entries.Entry.{Entry}
 use Rattle.plfs_types.specs.declared.limits.TheConstants.{MAX_LOG, MAX_SIZE, MAX_STAMP}
 use Rattle.container_layout.specs.Items.{IsMetaRange}
 use Rattle.index_entry.specs.Spelling.{entry_in}
-use Rattle.flow.specs.Entries.{is_next}
+use Rattle.mount_model.specs.Entries.{is_next}
 use Rattle.torn_tail.specs.Entries.{no_entries, longer, checked, looked}
 use Rattle.torn_tail.specs.Words.{Went, Run, ends, breaks}
 use Rattle.recovery_laws.proofs.Counting.{came}

@@ -13,11 +13,11 @@ use Rattle.store_api.specs.declared.step.Answer.TheVariants.{Absent, Bytes, NoFo
 use Rattle.store_api.specs.Room.{has_folder}
 use Rattle.store_laws.specs.Files.{file_at}
 use Rattle.store_laws.specs.There.{LacksFolder}
-use Rattle.flow.specs.Running.{asking, unbroken}
-use Rattle.story.specs.Program.{followed_by}
-use Rattle.story.specs.Safe.{IsSafe}
-use Rattle.flow.specs.declared.names.OpenEntry.{OpenEntry}
-use Rattle.flow.specs.Replies.{bytes_in, given, length_in, on_ok, trouble}
+use Rattle.mount_model.specs.Running.{asking, unbroken}
+use Rattle.mount_model.specs.Program.{followed_by}
+use Rattle.mount_model.specs.Safe.{IsSafe}
+use Rattle.mount_model.specs.declared.names.OpenEntry.{OpenEntry}
+use Rattle.mount_model.specs.FlowReplies.{bytes_in, given, length_in, on_ok, trouble}
 use Rattle.mount_model.specs.declared.call.Call.TheVariants.{Inspect, Look}
 use Rattle.mount_model.specs.declared.call.Look.TheVariants.{Length, Read}
 use Rattle.mount_model.specs.declared.call.Call.{Call}
@@ -27,19 +27,19 @@ use Rattle.mount_model.specs.Paths.{index_path, log_path}
 use Rattle.mount_model.specs.Recovering.{IsHostAndWriter}
 use Rattle.mount_model.specs.State.{State, last_id}
 use Rattle.mount_model.specs.Step.{IsStep}
-use Rattle.mount_shape.specs.Shape.{IsDrawnBy}
-use Rattle.mount_shape.proofs.Facts.{container_at, item_held, shape_of}
+use Rattle.mount_sound.specs.Shape.{IsDrawnBy}
+use Rattle.mount_sound.proofs.Shapes.Facts.{container_at, item_held, shape_of}
 use Rattle.mount_sound.specs.Dropping.{bytes_of, log_bytes}
 use Rattle.mount_sound.specs.Items.{HasItem}
 use Rattle.mount_sound.specs.Ledger.{Ledger}
 use Rattle.mount_sound.specs.Owed.{MayBury, Permits}
 use Rattle.mount_sound.specs.Sound.{IsSoundFor}
 use Rattle.mount_sound.proofs.Facts.{is_index, is_log, one_tree, only_dead, some_room}
-use Rattle.holding_laws.proofs.Facts.{may_free}
+use Rattle.recovery_laws.proofs.Holds.Facts.{may_free}
 use Rattle.torn_tail.specs.Entries.{no_entries, checked, looked}
 use Rattle.torn_tail.specs.Recovering.{recovers, noted}
 use Rattle.torn_tail.specs.Writers.{found, if_checked, measures_index, measures_log, not_done, reads, reads_left, writer_program}
-use Rattle.flow.specs.Entries.{next_read, reads_of}
+use Rattle.mount_model.specs.Entries.{next_read, reads_of}
 use Rattle.torn_tail.specs.declared.recovering.Recovered.{Recovered}
 use Rattle.torn_tail.specs.Words.{Went, Run, all_there, ends, breaks}
 use Rattle.recovery_laws.proofs.Checking.{IsSoFar, checked_ended, ended_tells, full_checked, looked_ending, none_left_tells, short_checked, short_tells}

@@ -11,16 +11,16 @@ use Rattle.store_laws.specs.Files.{file_at}
 use Rattle.store_laws.specs.There.{ListsFolder}
 use Rattle.store_api.specs.Names.{same_name}
 use Rattle.store_laws.proofs.Facts.{name_refl}
-use Rattle.flow.specs.declared.stuck.Stuck.{Stuck}
-use Rattle.flow.specs.Running.{asking, unbroken}
-use Rattle.story.specs.Program.{done}
-use Rattle.story.specs.Safe.{IsSafe}
-use Rattle.flow.specs.declared.names.OpenEntry.{OpenEntry}
-use Rattle.flow.specs.Listed.{file_in, or_trouble, told_by}
-use Rattle.flow.specs.Names.{open_in}
-use Rattle.flow.specs.Order.{entries_by_writer, put_by}
-use Rattle.flow.specs.Replies.{damage, failure, given, is_no_folder, names_in, room_in, trouble}
-use Rattle.flow.proofs.Facts.{open_in-found}
+use Rattle.mount_model.specs.declared.stuck.Stuck.{Stuck}
+use Rattle.mount_model.specs.Running.{asking, unbroken}
+use Rattle.mount_model.specs.Program.{done}
+use Rattle.mount_model.specs.Safe.{IsSafe}
+use Rattle.mount_model.specs.declared.names.OpenEntry.{OpenEntry}
+use Rattle.mount_model.specs.FlowListed.{file_in, or_trouble, told_by}
+use Rattle.mount_model.specs.Names.{open_in}
+use Rattle.mount_model.specs.Order.{entries_by_writer, put_by}
+use Rattle.mount_model.specs.FlowReplies.{damage, failure, given, is_no_folder, names_in, room_in, trouble}
+use Rattle.mount_model.proofs.Flows.Facts.{open_in-found}
 use Rattle.mount_model.specs.declared.call.Call.TheVariants.{Find, Look, MendHold}
 use Rattle.mount_model.specs.declared.call.Look.TheVariants.{List as ListFolder}
 use Rattle.mount_model.specs.declared.reply.Reply.{Reply}
@@ -29,14 +29,14 @@ use Rattle.mount_model.specs.Paths.{Name}
 use Rattle.container_layout.specs.Paths.{openhosts}
 use Rattle.mount_model.specs.State.{State}
 use Rattle.mount_model.specs.Step.{IsStep}
-use Rattle.mount_shape.proofs.Facts.{item_drawn}
+use Rattle.mount_sound.proofs.Shapes.Facts.{item_drawn}
 use Rattle.mount_sound.specs.Dropping.{IsWriter}
 use Rattle.mount_sound.specs.Items.{HasItem}
 use Rattle.mount_sound.specs.Ledger.{Ledger}
 use Rattle.mount_sound.specs.Owed.{Permits}
 use Rattle.mount_sound.specs.Sound.{IsFine, IsSoundFor}
 use Rattle.mount_sound.proofs.Facts.{one_tree, some_room, step_fine}
-use Rattle.holding_laws.proofs.Facts.{fine_lasts, may_free, safe_ask, safe_free}
+use Rattle.recovery_laws.proofs.Holds.Facts.{fine_lasts, may_free, safe_ask, safe_free}
 use Rattle.torn_tail.specs.Recovering.{entries_named, hold_mended, lists_open, mends_hold, nothing, recover_program, recovers, recovers_listed}
 use Rattle.torn_tail.specs.declared.recovering.Recovered.{Recovered}
 use Rattle.recovery_laws.proofs.Cleanly.{Cleanly, cleanly_then, safe_given}

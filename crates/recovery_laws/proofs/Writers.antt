@@ -10,12 +10,12 @@ use Rattle.index_entry.specs.Within.{within_log}
 use Rattle.store_api.specs.declared.tree.Room.{Room}
 use Rattle.store_api.specs.declared.tree.Tree.{Tree}
 use Rattle.store_laws.specs.Files.{kept_at}
-use Rattle.flow.specs.declared.stuck.Stuck.{Stuck}
-use Rattle.flow.specs.Running.{asking, unbroken}
-use Rattle.story.specs.Program.{Program, done, ask, followed_by}
-use Rattle.story.specs.Safe.{IsSafe}
-use Rattle.flow.specs.declared.names.OpenEntry.{OpenEntry}
-use Rattle.flow.specs.Replies.{failure, on_ok}
+use Rattle.mount_model.specs.declared.stuck.Stuck.{Stuck}
+use Rattle.mount_model.specs.Running.{asking, unbroken}
+use Rattle.mount_model.specs.Program.{Program, done, ask, followed_by}
+use Rattle.mount_model.specs.Safe.{IsSafe}
+use Rattle.mount_model.specs.declared.names.OpenEntry.{OpenEntry}
+use Rattle.mount_model.specs.FlowReplies.{failure, on_ok}
 use Rattle.mount_model.specs.declared.call.Ask.{Ask}
 use Rattle.mount_model.specs.declared.call.Call.{Call}
 use Rattle.mount_model.specs.declared.call.Call.TheVariants.{Bury, Mend, MendMeta, SyncDropping}

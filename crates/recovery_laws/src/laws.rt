@@ -1,8 +1,8 @@
 //! The laws of a recovery.
 ghost use Rattle.std.specs.Prelude.{◌≡◌, ◌≢◌, ℕ, List};
 ghost use Rattle.index_entry.specs.Within.{within_log};
-ghost use Rattle.story.specs.Safe.{IsSafe};
-ghost use Rattle.flow.specs.Running.{asking};
+ghost use Rattle.mount_model.specs.Safe.{IsSafe};
+ghost use Rattle.mount_model.specs.Running.{asking};
 ghost use Rattle.mount_model.specs.State.{State};
 ghost use Rattle.mount_model.specs.Step.{IsStep};
 ghost use Rattle.mount_sound.specs.Owed.{Permits};

@@ -1,9 +1,9 @@
 -- A refresh only looks at what is there.
 use Rattle.std.proofs.Common.{ℕ, [], ◌∷◌, Option, Some, None, Result, Ok, Err}
-use Rattle.story.specs.Program.{Program, done, ask, followed_by}
+use Rattle.mount_model.specs.Program.{Program, done, ask, followed_by}
 use Rattle.store_api.specs.declared.step.Answer.TheVariants.{Names}
-use Rattle.flow.specs.declared.stuck.Stuck.{Stuck}
-use Rattle.flow.specs.Replies.{Tries, on_ok}
+use Rattle.mount_model.specs.declared.stuck.Stuck.{Stuck}
+use Rattle.mount_model.specs.FlowReplies.{Tries, on_ok}
 use Rattle.mount_model.specs.declared.call.Call.{Call}
 use Rattle.mount_model.specs.declared.reply.Reply.{Reply}
 use Rattle.mount_model.specs.declared.reply.Reply.TheVariants.{Looked, Room}

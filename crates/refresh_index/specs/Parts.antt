@@ -1,9 +1,9 @@
 -- Where the parts of a refresh stand in its program.
 use Rattle.std.specs.Prelude.{◌≡◌, ℕ, ◌+◌, true, IfSome}
 use Rattle.plain_file.specs.declared.parts.ReaderParts.{ReaderParts}
-use Rattle.story.specs.Program.{done}
-use Rattle.flow.specs.Standing.{Standing, ready, rest_of}
-use Rattle.flow.specs.Composed.{then_on, is_awaiting, calling}
+use Rattle.mount_model.specs.Program.{done}
+use Rattle.mount_model.specs.Standing.{Standing, ready, rest_of}
+use Rattle.mount_model.specs.Composed.{then_on, is_awaiting, calling}
 use Rattle.mount_model.specs.declared.call.Call.{Call}
 use Rattle.mount_model.specs.declared.reply.Reply.{Reply}
 use Rattle.mount_model.specs.Step.{OwedBy}

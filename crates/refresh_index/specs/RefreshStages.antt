@@ -1,6 +1,6 @@
 -- Where the machine of a refresh stands in its program.
 use Rattle.std.specs.Prelude.{ℕ}
-use Rattle.flow.specs.Standing.{Standing}
+use Rattle.mount_model.specs.Standing.{Standing}
 use Rattle.mount_model.specs.declared.call.Call.{Call}
 use Rattle.mount_model.specs.declared.reply.Reply.{Reply}
 use Rattle.refresh_index.specs.declared.refreshing.Refresh.{Refresh}

@@ -6,9 +6,9 @@ use Rattle.plain_file.specs.declared.parts.ReaderParts.{ReaderParts}
 use Rattle.plain_file.specs.declared.pieces.Piece.{Piece}
 use Rattle.plain_file.specs.Size.{size_from}
 use Rattle.plain_file.specs.Sources.{source_at, newer_source, kept_source}
-use Rattle.story.specs.Program.{Program, done, followed_by}
-use Rattle.flow.specs.declared.stuck.Stuck.{Stuck}
-use Rattle.flow.specs.Replies.{damage}
+use Rattle.mount_model.specs.Program.{Program, done, followed_by}
+use Rattle.mount_model.specs.declared.stuck.Stuck.{Stuck}
+use Rattle.mount_model.specs.FlowReplies.{damage}
 use Rattle.mount_model.specs.declared.call.Call.{Call}
 use Rattle.mount_model.specs.declared.reply.Reply.{Reply}
 use Rattle.mount_model.specs.Paths.{index_path}

@@ -1,8 +1,8 @@
 //! The parts of a refresh, one after the other.
 ghost use Rattle.std.specs.Prelude.{◌≡◌, ◌<◌, ◌≤◌, ◌+◌, [], true, Option, Some, Ok, Err, IfOk, IfSome};
 ghost use Rattle.mount_model.specs.declared.call.Call.{Call as Asked};
-ghost use Rattle.flow.specs.Standing.{ready, next_of, rest_of, replied, Awaits, IsFresh, IsOver};
-ghost use Rattle.flow.specs.Composed.{calling, is_awaiting, then_on};
+ghost use Rattle.mount_model.specs.Standing.{ready, next_of, rest_of, replied, Awaits, IsFresh, IsOver};
+ghost use Rattle.mount_model.specs.Composed.{calling, is_awaiting, then_on};
 ghost use Rattle.mount_model.specs.Step.{OwedBy};
 ghost use Rattle.index_reader.specs.Listing.{AreByWriter};
 ghost use Rattle.index_reader.specs.OpenStages.{open_calls_left, open_standing};
@@ -16,10 +16,9 @@ use crate::hosts::moved;
 use crate::joined::{behind, refreshed};
 use crate::refreshing::RefreshOut;
 use container_layout::{Item, print};
-use flow::{Flow, Stuck, damage};
 use gather_flow::{AllRead, Called, Gathering};
 use index_reader::{Listing, OpenRead};
-use mount_model::{Call, Reply};
+use mount_model::{Call, Flow, Reply, Stuck, damage};
 use plfs_types::NoMemory;
 use std::alloc::Global;
 

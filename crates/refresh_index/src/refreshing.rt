@@ -4,9 +4,8 @@ ghost use Rattle.refresh_index.specs.Parts.{IsPartUnderway};
 use crate::held::Held;
 use crate::parts::Part;
 use crate::underway::Underway;
-use flow::{Flow, Stuck};
 use index_reader::OpenRead;
-use mount_model::{Call, Reply};
+use mount_model::{Call, Flow, Reply, Stuck};
 use plain_file::{HostList, PieceList, Pieces, ReaderParts};
 use plfs_types::{CoverList, NoMemory, TruncList};
 use std::alloc::Global;
@@ -35,7 +34,7 @@ pub struct Refresh {
 
 impl Refresh {
     ghost use Rattle.std.specs.Prelude.{◌≡◌};
-    ghost use Rattle.flow.specs.Standing.{ready};
+    ghost use Rattle.mount_model.specs.Standing.{ready};
     ghost use Rattle.index_reader.specs.Covered.{AreByWriter as AreCoversByWriter};
     ghost use Rattle.index_reader.specs.Hosts.{AreByWriter as AreHostsByWriter};
     ghost use Rattle.refresh_index.specs.Refreshing.{refresh_program};
@@ -59,7 +58,7 @@ impl Refresh {
 }
 
 impl Flow for Refresh {
-    ghost use Rattle.flow.specs.Standing.{IsOver, rest_of, over};
+    ghost use Rattle.mount_model.specs.Standing.{IsOver, rest_of, over};
     ghost use Rattle.std.specs.Prelude.{◌≡◌};
     ghost use Rattle.index_reader.specs.Covered.{AreByWriter as AreCoversByWriter};
     ghost use Rattle.index_reader.specs.Hosts.{AreByWriter as AreHostsByWriter};

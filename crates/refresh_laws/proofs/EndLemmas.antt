@@ -11,12 +11,12 @@ use Rattle.mount_model.specs.declared.call.Call.{Call}
 use Rattle.mount_model.specs.declared.reply.Reply.{Reply}
 use Rattle.mount_model.specs.History.{Event}
 use Rattle.mount_sound.specs.Owed.{IsLawful}
-use Rattle.story.specs.Calls.{AreCallsOf}
-use Rattle.story.specs.Program.{Program}
-use Rattle.flow.specs.declared.stuck.Stuck.{Stuck}
-use Rattle.flow.specs.Replies.{on_ok}
-use Rattle.flow.specs.Running.{Runs, asking}
-use Rattle.flow.proofs.Facts.{runs_in_two}
+use Rattle.mount_model.specs.Calls.{AreCallsOf}
+use Rattle.mount_model.specs.Program.{Program}
+use Rattle.mount_model.specs.declared.stuck.Stuck.{Stuck}
+use Rattle.mount_model.specs.FlowReplies.{on_ok}
+use Rattle.mount_model.specs.Running.{Runs, asking}
+use Rattle.mount_model.proofs.Flows.Facts.{runs_in_two}
 use Rattle.index_reader.specs.declared.listing.Dropping.{Dropping as Listed}
 use Rattle.index_reader.specs.declared.listing.Listing.{Listing}
 use Rattle.index_reader.specs.declared.sharing.Share.{Share}
@@ -28,9 +28,9 @@ use Rattle.gather_flow.specs.declared.all_read.AllRead.{AllRead}
 use Rattle.gather_flow.specs.Dealing.{dealt_to, its_own}
 use Rattle.gather_flow.specs.Gathering.{if_truncs_listed, reads_truncs, shares_from}
 use Rattle.gather_flow.specs.OneIndex.{gathered_of}
-use Rattle.gathering.specs.Moments.{Moment, IsSoundAt, Grows, moment_after}
-use Rattle.gathering.specs.Gathering.{Gathered}
-use Rattle.gathering.proofs.Facts.{follows, grows_after, legal_first, legal_rest, sound_after}
+use Rattle.reader_laws.specs.Moments.{Moment, IsSoundAt, Grows, moment_after}
+use Rattle.reader_laws.specs.Gathering.{Gathered}
+use Rattle.reader_laws.proofs.Gathered.Facts.{follows, grows_after, legal_first, legal_rest, sound_after}
 use Rattle.reader_laws.specs.Failing.{FailsByStore, IsContainerAt}
 use Rattle.reader_laws.specs.Opened.{HasOpenReader}
 use Rattle.reader_laws.proofs.Facts.{container_later, fails_first, fails_rest}

@@ -11,11 +11,11 @@ use Rattle.mount_sound.proofs.Facts.{take_less}
 use Rattle.index_reader.specs.Covered.{cover_of, or_nothing}
 use Rattle.index_reader.specs.Found.{item_of}
 use Rattle.index_reader.specs.Sharing.{covered}
-use Rattle.gathering.specs.Moments.{Moment, Dropping, Grows, Stood, issued_by, landed}
-use Rattle.gathering.specs.Gathering.{Gathered, IsAdmissible, CoversLanded}
-use Rattle.gathering.specs.View.{WritersRise, covered_in, own_entries, writes_in}
-use Rattle.gathering.proofs.Facts.{alike, among_left, among_right, entries_stay, length-entries, length_taken, one_gathered, prefix_of, stood_grows}
-use Rattle.gathering.proofs.OpenReaders.Viewing.{entries_split}
+use Rattle.reader_laws.specs.Moments.{Moment, Dropping, Grows, Stood, issued_by, landed}
+use Rattle.reader_laws.specs.Gathering.{Gathered, IsAdmissible, CoversLanded}
+use Rattle.reader_laws.specs.View.{WritersRise, covered_in, own_entries, writes_in}
+use Rattle.reader_laws.proofs.Gathered.Facts.{alike, among_left, among_right, entries_stay, length-entries, length_taken, one_gathered, prefix_of, stood_grows}
+use Rattle.reader_laws.proofs.Gathered.OpenReaders.Viewing.{entries_split}
 use Rattle.reader_laws.specs.Covering.{cover_with, empty_cover, counts_in}
 use Rattle.reader_laws.proofs.OpenReaders.Counts.{AreRightFor, its_cover, itself, none_in, of_writer, one_in, covered_other, take_none, writer_of}
 use Rattle.reader_laws.proofs.OpenReaders.Cuts.{either_part}

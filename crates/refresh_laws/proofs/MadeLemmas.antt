@@ -26,10 +26,10 @@ use Rattle.index_reader.specs.Runs.{merged_of}
 use Rattle.index_reader.proofs.Indices.RunLemmas.{merged_of-is}
 use Rattle.gather_flow.specs.OneIndex.{gathered_of}
 use Rattle.gather_flow.proofs.CoverLemmas.{first_is, first_rise}
-use Rattle.gathering.specs.Moments.{Moment, IsSoundAt}
-use Rattle.gathering.specs.Gathering.{Gathered}
-use Rattle.gathering.specs.View.{writes_in, changes_in}
-use Rattle.gathering.proofs.OpenReaders.Viewing.{bytes_all, entries_of-changes, keys_differ, truncs_of-changes}
+use Rattle.reader_laws.specs.Moments.{Moment, IsSoundAt}
+use Rattle.reader_laws.specs.Gathering.{Gathered}
+use Rattle.reader_laws.specs.View.{writes_in, changes_in}
+use Rattle.reader_laws.proofs.Gathered.OpenReaders.Viewing.{bytes_all, entries_of-changes, keys_differ, truncs_of-changes}
 use Rattle.reader_laws.specs.Opened.{HasOpenReader}
 use Rattle.reader_laws.proofs.Facts.{AreRunsOf, IsBounded, runs_are}
 use Rattle.refresh_index.specs.Hosts.{hosts_with}

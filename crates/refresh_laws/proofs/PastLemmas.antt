@@ -3,12 +3,12 @@ use Rattle.std.proofs.Common.{◌≡◌, ℕ, zero, suc, ◌+◌, ◌-◌, ◌*�
 use Rattle.std.specs.Prelude.{if◌then◌else◌}
 use Rattle.std.proofs.lemmas.Bool.Decides.{nat_tests}
 use Rattle.plain_file.specs.declared.parts.ReaderParts.{ReaderParts}
-use Rattle.story.specs.Program.{AsksOnly, Program, done, ask, followed_by}
+use Rattle.mount_model.specs.Program.{AsksOnly, Program, done, ask, followed_by}
 use Rattle.mount_model.specs.declared.call.Call.{Call}
 use Rattle.mount_model.specs.declared.reply.Reply.{Reply}
 use Rattle.mount_model.specs.Paths.{index_path, log_path}
-use Rattle.flow.specs.declared.stuck.Stuck.{Stuck}
-use Rattle.flow.specs.Replies.{Tries, given, on_ok, bytes_in, names_in, trouble}
+use Rattle.mount_model.specs.declared.stuck.Stuck.{Stuck}
+use Rattle.mount_model.specs.FlowReplies.{Tries, given, on_ok, bytes_in, names_in, trouble}
 use Rattle.index_reader.specs.declared.entries.Tail.{Tail}
 use Rattle.index_reader.specs.declared.listing.Dropping.{Dropping}
 use Rattle.index_reader.specs.declared.listing.Listing.{Listing}
@@ -22,7 +22,7 @@ use Rattle.index_reader.specs.Replies.{log_length_in, number_in}
 use Rattle.index_reader.specs.Scanning.{nothing_found}
 use Rattle.index_reader.specs.Sharing.{added, gathers, nothing, share_program}
 use Rattle.index_reader.specs.Tails.{if_logged, if_told, log_then, looked, reads, tail_program}
-use Rattle.flow.specs.Entries.{next_read, reads_of}
+use Rattle.mount_model.specs.Entries.{next_read, reads_of}
 use Rattle.index_reader.specs.Tops.{top_shows}
 use Rattle.index_reader.specs.Truncs.{trunc_program}
 use Rattle.index_reader.proofs.Facts.{if_checked_asks}

@@ -24,18 +24,18 @@ use Rattle.index_reader.specs.declared.sharing.Share.{Share}
 use Rattle.index_reader.specs.Covered.{cover_of}
 use Rattle.index_reader.specs.Listing.{AreByWriter}
 use Rattle.index_reader.specs.Opening.{no_flat}
-use Rattle.gathering.specs.Moments.{Moment, IsSoundAt, Dropping, Grows, IsNamed, Stood, issued_by, moment_after}
-use Rattle.gathering.specs.Seen.{asked_in, calls_of, IsSeen}
-use Rattle.gathering.specs.Gathering.{Gathered, CoversLanded, IsAdmissible, IsPrefixOf}
-use Rattle.gathering.specs.Listing.{AreTruncsAt}
+use Rattle.reader_laws.specs.Moments.{Moment, IsSoundAt, Dropping, Grows, IsNamed, Stood, issued_by, moment_after}
+use Rattle.reader_laws.specs.Seen.{asked_in, calls_of, IsSeen}
+use Rattle.reader_laws.specs.Gathering.{Gathered, CoversLanded, IsAdmissible, IsPrefixOf}
+use Rattle.reader_laws.specs.GatheringListing.{AreTruncsAt}
 use Rattle.plfs_types.specs.Places.{IsAmong}
-use Rattle.gathering.specs.Opening.{HasView}
-use Rattle.gathering.specs.View.{changes_in, covered_in, tails_in, tails_of, writes_in, WritersRise}
-use Rattle.gathering.proofs.Facts.{all_at, among_left, among_right, any_found, found_any, grows_after, grows_trans, keys_in, later_truncates, legal_first, legal_rest, length-entries, length_taken, moment-append, prefix_of, same_entries, scan_found, seen, seen_grows, seen_split, sound_after}
-use Rattle.gathering.proofs.Logs.Gathers.{AdmissibleEach, gathers_all}
-use Rattle.gathering.proofs.Moments.Seeing.{seen_waits}
-use Rattle.gathering.proofs.Containers.Truncates.{truncs_listed as truncs_stood}
-use Rattle.gathering.proofs.OpenReaders.Viewing.{bytes_all, entries_of-changes, keys_differ, tails_are, truncs_of-changes}
+use Rattle.reader_laws.specs.GatheringOpening.{HasView}
+use Rattle.reader_laws.specs.View.{changes_in, covered_in, tails_in, tails_of, writes_in, WritersRise}
+use Rattle.reader_laws.proofs.Gathered.Facts.{all_at, among_left, among_right, any_found, found_any, grows_after, grows_trans, keys_in, later_truncates, legal_first, legal_rest, length-entries, length_taken, moment-append, prefix_of, same_entries, scan_found, seen, seen_grows, seen_split, sound_after}
+use Rattle.reader_laws.proofs.Gathered.Logs.Gathers.{AdmissibleEach, gathers_all}
+use Rattle.reader_laws.proofs.Gathered.Moments.Seeing.{seen_waits}
+use Rattle.reader_laws.proofs.Gathered.Containers.Truncates.{truncs_listed as truncs_stood}
+use Rattle.reader_laws.proofs.Gathered.OpenReaders.Viewing.{bytes_all, entries_of-changes, keys_differ, tails_are, truncs_of-changes}
 use Rattle.reader_laws.specs.Covering.{counts_in, cover_with}
 use Rattle.reader_laws.specs.Listing.{AreListed, HasListedTruncs}
 use Rattle.reader_laws.specs.Opened.{HasOpenReader}

@@ -9,18 +9,18 @@ use Rattle.plain_file.specs.declared.parts.WriterHost.{WriterHost}
 use Rattle.plain_file.proofs.Facts.{Among, cases_Option}
 use Rattle.mount_model.specs.History.{Event}
 use Rattle.mount_sound.specs.Owed.{IsLawful}
-use Rattle.flow.specs.Running.{Runs}
+use Rattle.mount_model.specs.Running.{Runs}
 use Rattle.index_reader.specs.declared.listing.Dropping.{Dropping as Listed}
 use Rattle.index_reader.specs.declared.listing.Listing.{Listing}
 use Rattle.index_reader.specs.Found.{item_of}
 use Rattle.index_reader.specs.Hosts.{AreByWriter, host_given, hosts_of}
 use Rattle.index_reader.specs.Opened.{reader_from}
 use Rattle.index_reader.specs.Opening.{no_flat, scan_program}
-use Rattle.gathering.specs.Moments.{Moment, IsSoundAt, Dropping, Grows, Stood, moment_after}
-use Rattle.gathering.specs.Seen.{calls_of}
-use Rattle.gathering.specs.Gathering.{Gathered}
-use Rattle.gathering.specs.View.{WritersRise}
-use Rattle.gathering.proofs.Facts.{all_at, any_found, scan_found, seen}
+use Rattle.reader_laws.specs.Moments.{Moment, IsSoundAt, Dropping, Grows, Stood, moment_after}
+use Rattle.reader_laws.specs.Seen.{calls_of}
+use Rattle.reader_laws.specs.Gathering.{Gathered}
+use Rattle.reader_laws.specs.View.{WritersRise}
+use Rattle.reader_laws.proofs.Gathered.Facts.{all_at, any_found, scan_found, seen}
 use Rattle.reader_laws.specs.Listing.{AreListed}
 use Rattle.reader_laws.specs.Opened.{HasOpenReader}
 use Rattle.reader_laws.specs.Sharing.{in_room, host_in_room}

@@ -6,8 +6,8 @@ use Rattle.plfs_types.specs.declared.entries.Cover.{Cover}
 use Rattle.plain_file.proofs.Facts.{Among}
 use Rattle.mount_model.specs.History.{Event, state_after}
 use Rattle.mount_sound.specs.Owed.{IsLawful}
-use Rattle.flow.specs.declared.stuck.Stuck.{Stuck}
-use Rattle.flow.specs.Running.{Runs}
+use Rattle.mount_model.specs.declared.stuck.Stuck.{Stuck}
+use Rattle.mount_model.specs.Running.{Runs}
 use Rattle.index_reader.specs.declared.listing.Dropping.{Dropping as Listed}
 use Rattle.index_reader.specs.declared.listing.Listing.{Listing}
 use Rattle.index_reader.specs.declared.opened.OpenReader.{OpenReader}
@@ -15,13 +15,13 @@ use Rattle.index_reader.specs.Covered.{cover_of}
 use Rattle.index_reader.specs.Opening.{no_flat, scan_program}
 use Rattle.index_reader.specs.Sharing.{nothing, share_program}
 use Rattle.index_reader.specs.Truncs.{trunc_program}
-use Rattle.gathering.specs.Moments.{Moment, IsSoundAt, Dropping, Grows, IsNamed, Stood, moment_after}
-use Rattle.gathering.specs.Seen.{calls_of}
-use Rattle.gathering.specs.Gathering.{Gathered, CoversLanded}
-use Rattle.gathering.specs.Listing.{AreFound}
+use Rattle.reader_laws.specs.Moments.{Moment, IsSoundAt, Dropping, Grows, IsNamed, Stood, moment_after}
+use Rattle.reader_laws.specs.Seen.{calls_of}
+use Rattle.reader_laws.specs.Gathering.{Gathered, CoversLanded}
+use Rattle.reader_laws.specs.GatheringListing.{AreFound}
 use Rattle.plfs_types.specs.Places.{IsAmong}
-use Rattle.gathering.specs.View.{WritersRise}
-use Rattle.gathering.proofs.Facts.{all_at, among, any_found, follows, grows_after, grows_trans, legal_first, legal_rest, scan_finds, scan_found, seen, sound_after}
+use Rattle.reader_laws.specs.View.{WritersRise}
+use Rattle.reader_laws.proofs.Gathered.Facts.{all_at, among, any_found, follows, grows_after, grows_trans, legal_first, legal_rest, scan_finds, scan_found, seen, sound_after}
 use Rattle.reader_laws.specs.Failing.{FailsByStore, IsContainerAt}
 use Rattle.reader_laws.specs.Listing.{AreListed}
 use Rattle.reader_laws.specs.Opened.{HasOpenReader}

@@ -7,7 +7,7 @@ use Rattle.plain_file.specs.declared.parts.WriterHost.{WriterHost}
 use Rattle.plain_file.specs.Runs.{AreRuns}
 use Rattle.mount_model.specs.History.{Event}
 use Rattle.mount_sound.specs.Owed.{IsLawful}
-use Rattle.flow.specs.Running.{Runs}
+use Rattle.mount_model.specs.Running.{Runs}
 use Rattle.index_reader.specs.declared.listing.Listing.{Listing}
 use Rattle.index_reader.specs.declared.opened.OpenReader.{OpenReader}
 use Rattle.index_reader.specs.declared.sharing.Share.{Share}
@@ -15,10 +15,10 @@ use Rattle.index_reader.specs.Hosts.{AreByWriter, hosts_of}
 use Rattle.index_reader.specs.Opened.{reader_from}
 use Rattle.index_reader.specs.Opening.{no_flat}
 use Rattle.gather_flow.specs.OneIndex.{gathered_of}
-use Rattle.gathering.specs.Moments.{Moment, IsSoundAt, Dropping, moment_after}
-use Rattle.gathering.specs.Gathering.{Gathered}
-use Rattle.gathering.specs.View.{WritersRise}
-use Rattle.gathering.proofs.Facts.{grows_after, legal_first, legal_rest, sound_after}
+use Rattle.reader_laws.specs.Moments.{Moment, IsSoundAt, Dropping, moment_after}
+use Rattle.reader_laws.specs.Gathering.{Gathered}
+use Rattle.reader_laws.specs.View.{WritersRise}
+use Rattle.reader_laws.proofs.Gathered.Facts.{grows_after, legal_first, legal_rest, sound_after}
 use Rattle.reader_laws.specs.Failing.{IsContainerAt}
 use Rattle.reader_laws.specs.Listing.{AreListed}
 use Rattle.reader_laws.specs.Opened.{HasOpenReader}

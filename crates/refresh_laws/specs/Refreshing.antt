@@ -8,8 +8,8 @@ use Rattle.plain_file.specs.Runs.{AreRuns}
 use Rattle.plain_file.specs.Size.{size_from}
 use Rattle.plain_file.specs.Sources.{source_at, newer_source, kept_source}
 use Rattle.mount_model.specs.History.{Event}
-use Rattle.flow.specs.declared.stuck.Stuck.{Stuck}
-use Rattle.flow.specs.Running.{Runs}
+use Rattle.mount_model.specs.declared.stuck.Stuck.{Stuck}
+use Rattle.mount_model.specs.Running.{Runs}
 use Rattle.index_reader.specs.declared.listing.Listing.{Listing}
 use Rattle.index_reader.specs.declared.opened.OpenReader.{OpenReader}
 use Rattle.index_reader.specs.declared.sharing.Share.{Share}
@@ -19,8 +19,8 @@ use Rattle.index_reader.specs.Opened.{reader_from}
 use Rattle.index_reader.specs.Opening.{scan_program}
 use Rattle.index_reader.specs.Sharing.{share_program}
 use Rattle.index_reader.specs.Truncs.{trunc_program}
-use Rattle.gathering.specs.Moments.{Moment}
-use Rattle.gathering.specs.Gathering.{Gathered}
+use Rattle.reader_laws.specs.Moments.{Moment}
+use Rattle.reader_laws.specs.Gathering.{Gathered}
 use Rattle.reader_laws.specs.Failing.{FailsByStore}
 use Rattle.reader_laws.specs.Opened.{HasOpenedIn}
 use Rattle.refresh_index.specs.declared.refreshing.RefreshOut.{RefreshOut}

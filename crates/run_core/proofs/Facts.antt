@@ -15,5 +15,5 @@ pub use Rattle.run_core.proofs.Plays.Tables.{left_item, own_no, own_yes}
 pub use Rattle.run_core.proofs.Players.Works.{idle_kept, same_some}
 pub use Rattle.run_core.proofs.Lines.WorksCaused.{IsWell, NoFault, work_caused}
 pub use Rattle.run_core.proofs.Lines.WorksText.{AnyReply, all_of_good, any_well, play_has_text, work_text}
-pub use Rattle.statement_laws.proofs.Facts.{comes_to_line, work_safe}
+pub use Rattle.run_core.proofs.Statements.Facts.{comes_to_line, work_safe}
 pub use Rattle.run_core.proofs.LoneActors.LonePlays.{made_none, made_more, made_play}

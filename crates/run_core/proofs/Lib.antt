@@ -4,3 +4,4 @@ mod Lines
 mod LoneActors
 mod Players
 mod Plays
+pub mod Statements

@@ -1,8 +1,8 @@
 -- A play that was broken off, since memory was wanting.
 use Rattle.std.specs.Prelude.{◌≡◌, ℕ, ◌⊎◌, Bool, List, [], ◌∷◌, ◌++◌, Some, Result, map, slice_get}
-use Rattle.story.specs.Performers.{Performer}
-use Rattle.story.specs.InTurns.{WrittenOrder, AllInTurn, AllToEnd, InTurn, PhaseInTurns, ToItsEnd}
-use Rattle.flow.specs.declared.stuck.Stuck.{Stuck}
+use Rattle.mount_model.specs.Performers.{Performer}
+use Rattle.mount_model.specs.InTurns.{WrittenOrder, AllInTurn, AllToEnd, InTurn, PhaseInTurns, ToItsEnd}
+use Rattle.mount_model.specs.declared.stuck.Stuck.{Stuck}
 use Rattle.index_reader.specs.declared.sharing.Share.{Share}
 use Rattle.mount_model.specs.declared.call.Ask.{Ask}
 use Rattle.mount_model.specs.declared.reply.Reply.{Reply}

@@ -2,9 +2,9 @@
 use Rattle.std.specs.Prelude.{◌≡◌, ℕ, List, [], ◌∷◌, ◌++◌, ◌⊎◌, Some, map, slice_get}
 use Rattle.mount_model.specs.State.{State}
 use Rattle.mount_model.specs.History.{Event}
-use Rattle.story.specs.Performers.{performer}
-use Rattle.story.specs.InTurns.{InTurn}
-use Rattle.story.specs.Turns.{Finishes}
+use Rattle.mount_model.specs.Performers.{performer}
+use Rattle.mount_model.specs.InTurns.{InTurn}
+use Rattle.mount_model.specs.Turns.{Finishes}
 use Rattle.script_lang.specs.declared.line.Line.{Line}
 use Rattle.script_lang.specs.declared.script.Numbered.{Numbered}
 use Rattle.script_lang.specs.declared.script.Phase.{Phase}

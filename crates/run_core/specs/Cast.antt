@@ -2,14 +2,14 @@
 use Rattle.std.specs.Prelude.{ℕ, ◌+◌, List, [], ◌∷◌, ◌++◌, Result}
 use Rattle.mount_model.specs.declared.call.Ask.{Ask}
 use Rattle.mount_model.specs.declared.reply.Reply.{Reply}
-use Rattle.flow.specs.declared.stuck.Stuck.{Stuck}
+use Rattle.mount_model.specs.declared.stuck.Stuck.{Stuck}
 use Rattle.index_reader.specs.declared.sharing.Share.{Share}
 use Rattle.script_lang.specs.declared.line.Line.{Line}
 use Rattle.script_lang.specs.declared.script.ActorDecl.{ActorDecl}
 use Rattle.script_lang.specs.declared.script.Numbered.{Numbered}
 use Rattle.script_lang.specs.declared.script.Phase.{Phase}
 use Rattle.script_lang.specs.declared.script.Script.{Script}
-use Rattle.story.specs.Performers.{Performer, performer}
+use Rattle.mount_model.specs.Performers.{Performer, performer}
 use Rattle.run_core.specs.Course.{course_of}
 
 -- each actor calls under its place in the declarations; the first of these has this place

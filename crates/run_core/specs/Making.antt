@@ -2,9 +2,9 @@
 use Rattle.std.specs.Prelude.{◌≡◌, List, [], ◌∷◌}
 use Rattle.mount_model.specs.State.{State}
 use Rattle.mount_model.specs.History.{Event}
-use Rattle.story.specs.Turns.{Finishes}
-use Rattle.story.specs.Performers.{performer}
-use Rattle.story.specs.InTurns.{AllToEnd}
+use Rattle.mount_model.specs.Turns.{Finishes}
+use Rattle.mount_model.specs.Performers.{performer}
+use Rattle.mount_model.specs.InTurns.{AllToEnd}
 use Rattle.script_lang.specs.declared.line.Line.{Line}
 use Rattle.script_lang.specs.declared.script.ActorDecl.{ActorDecl}
 use Rattle.script_lang.specs.declared.script.Numbered.{Numbered}

@@ -2,9 +2,9 @@
 use Rattle.std.specs.Prelude.{◌≡◌, ℕ, ◌+◌, List, [], ◌++◌}
 use Rattle.mount_model.specs.State.{State}
 use Rattle.mount_model.specs.History.{Event}
-use Rattle.story.specs.Turns.{TakesTurn, Finishes}
-use Rattle.story.specs.Performers.{performer}
-use Rattle.story.specs.InTurns.{ToItsEnd}
+use Rattle.mount_model.specs.Turns.{TakesTurn, Finishes}
+use Rattle.mount_model.specs.Performers.{performer}
+use Rattle.mount_model.specs.InTurns.{ToItsEnd}
 use Rattle.script_lang.specs.declared.line.Line.{Line}
 use Rattle.actor_core.specs.declared.kept.Kept.{Kept}
 use Rattle.actor_core.specs.Progress.{IsIdle}

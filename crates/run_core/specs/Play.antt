@@ -4,9 +4,9 @@ use Rattle.mount_model.specs.State.{State}
 use Rattle.mount_model.specs.History.{Event}
 use Rattle.script_lang.specs.declared.line.Line.{Line}
 use Rattle.script_lang.specs.declared.script.Script.{Script}
-use Rattle.story.specs.MakesCalls.{MakesCalls}
-use Rattle.story.specs.Performers.{left_of, told_by_each}
-use Rattle.story.specs.InTurns.{InTurns}
+use Rattle.mount_model.specs.MakesCalls.{MakesCalls}
+use Rattle.mount_model.specs.Performers.{left_of, told_by_each}
+use Rattle.mount_model.specs.InTurns.{InTurns}
 use Rattle.run_core.specs.Written.{is_greeting, whose, written_of}
 use Rattle.run_core.specs.Cast.{cast, statements_in}
 use Rattle.run_core.specs.Leading.{Leads}

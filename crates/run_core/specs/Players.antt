@@ -2,15 +2,15 @@
 use Rattle.std.specs.Prelude.{◌≡◌, ℕ, ◌+◌, ⊤, All, List, length, Result}
 use Rattle.mount_model.specs.declared.call.Ask.{Ask}
 use Rattle.mount_model.specs.declared.reply.Reply.{Reply}
-use Rattle.flow.specs.declared.stuck.Stuck.{Stuck}
+use Rattle.mount_model.specs.declared.stuck.Stuck.{Stuck}
 use Rattle.index_reader.specs.declared.sharing.Share.{Share}
 use Rattle.mount_model.specs.State.{State}
 use Rattle.mount_model.specs.Step.{IsStep}
 use Rattle.mount_sound.specs.Owed.{Permits}
 use Rattle.mount_sound.specs.Sound.{IsFine}
-use Rattle.story.specs.Process.{ends, pauses, tells}
-use Rattle.story.specs.Safe.{IsSafeProcess}
-use Rattle.story.specs.Performers.{Performer, performer}
+use Rattle.mount_model.specs.Process.{ends, pauses, tells}
+use Rattle.mount_model.specs.Safe.{IsSafeProcess}
+use Rattle.mount_model.specs.Performers.{Performer, performer}
 use Rattle.script_lang.specs.declared.line.Line.{Line}
 use Rattle.script_lang.specs.declared.script.Numbered.{Numbered}
 use Rattle.script_lang.specs.declared.script.Phase.{Phase}
@@ -18,7 +18,7 @@ use Rattle.script_lang.specs.Ranges.{FitsStatement}
 use Rattle.actor_core.specs.declared.kept.Kept.{Kept}
 use Rattle.actor_core.specs.Progress.{Progress, idle, going, asked, handed, told}
 use Rattle.actor_core.specs.Standings.{progress_of}
-pub use Rattle.statement_laws.specs.Coming.{ComesToLine}
+pub use Rattle.run_core.specs.Coming.{ComesToLine}
 use Rattle.run_core.specs.declared.player.Player.{Player}
 use Rattle.run_core.specs.Course.{Course, then_line, one_by_one, own, through}
 

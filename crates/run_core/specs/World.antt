@@ -3,7 +3,7 @@ use Rattle.std.specs.Prelude.{◌≡◌, ℕ, List, [], ◌∷◌, ◌++◌, Som
 use Rattle.mount_model.specs.State.{State}
 use Rattle.mount_model.specs.History.{Event}
 use Rattle.mount_sound.specs.Sound.{IsFine}
-use Rattle.story.specs.InTurns.{AllInTurn, AllToEnd, PhaseInTurns, InTurns}
+use Rattle.mount_model.specs.InTurns.{AllInTurn, AllToEnd, PhaseInTurns, InTurns}
 use Rattle.script_lang.specs.declared.line.Line.{Line}
 use Rattle.script_lang.specs.declared.script.Numbered.{Numbered}
 use Rattle.script_lang.specs.declared.script.Phase.{Phase}

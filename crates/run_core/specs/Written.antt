@@ -6,7 +6,7 @@ use Rattle.mount_model.specs.declared.call.Call.TheVariants.{Greet}
 use Rattle.script_lang.specs.declared.script.Numbered.{Numbered}
 use Rattle.script_lang.specs.declared.script.Phase.{Phase}
 use Rattle.script_lang.specs.declared.script.Turned.{Turned}
-use Rattle.story.specs.InTurns.{WrittenOrder}
+use Rattle.mount_model.specs.InTurns.{WrittenOrder}
 
 -- a line `turn A N` is N turns of A
 abbrev pub turns_of : List Turned → List ℕ

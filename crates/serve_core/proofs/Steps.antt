@@ -9,9 +9,9 @@ use Rattle.mount_model.specs.Step.{IsStep}
 use Rattle.mount_sound.specs.Owed.{May, Permits}
 use Rattle.mount_sound.specs.Sound.{IsFine}
 use Rattle.mount_sound.proofs.Facts.{step_fine}
-use Rattle.story.specs.Process.{ends, pauses, tells, asks, shares}
-use Rattle.story.specs.Safe.{IsSafeProcess}
-use Rattle.story.specs.Turns.{Finishes}
+use Rattle.mount_model.specs.Process.{ends, pauses, tells, asks, shares}
+use Rattle.mount_model.specs.Safe.{IsSafeProcess}
+use Rattle.mount_model.specs.Turns.{Finishes}
 use Rattle.script_lang.specs.declared.line.Line.{Line}
 use Rattle.script_lang.specs.declared.script.Numbered.{Numbered}
 use Rattle.actor_core.specs.declared.kept.Kept.{Kept}
@@ -19,7 +19,7 @@ use Rattle.actor_core.specs.Work.{Work}
 use Rattle.actor_core.specs.Progress.{Progress, idle, going, asked, handed, told, next_ask, ask_of, given, begun, with_reply, waiting_line, line_taken, line_of, IsAsked, IsIdle, IsReady}
 use Rattle.actor_core.specs.Standings.{progress_of}
 use Rattle.actor_core.specs.Statements.{work_of}
-use Rattle.statement_laws.specs.Coming.{ComesToLine}
+use Rattle.run_core.specs.Coming.{ComesToLine}
 use Rattle.run_core.specs.Course.{Course}
 use Rattle.run_core.specs.Leading.{MadeCall}
 use Rattle.run_core.specs.Working.{rest_of}

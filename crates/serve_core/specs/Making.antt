@@ -3,7 +3,7 @@ use Rattle.std.specs.Prelude.{◌≡◌, ◌⊎◌, ℕ, List, [], ◌++◌, Som
 use Rattle.mount_model.specs.State.{State}
 use Rattle.mount_model.specs.History.{Event}
 use Rattle.mount_core.specs.Memory.{HadMemory}
-use Rattle.story.specs.Turns.{Finishes}
+use Rattle.mount_model.specs.Turns.{Finishes}
 use Rattle.script_lang.specs.declared.line.Line.{Line}
 use Rattle.script_lang.specs.declared.script.Numbered.{Numbered}
 use Rattle.actor_core.specs.declared.kept.Kept.{Kept}

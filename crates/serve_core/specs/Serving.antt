@@ -5,11 +5,11 @@ use Rattle.mount_model.specs.declared.reply.Reply.{Reply}
 use Rattle.mount_model.specs.State.{State}
 use Rattle.mount_model.specs.History.{Event}
 use Rattle.mount_core.specs.Memory.{HadMemory}
-use Rattle.flow.specs.declared.stuck.Stuck.{Stuck}
+use Rattle.mount_model.specs.declared.stuck.Stuck.{Stuck}
 use Rattle.index_reader.specs.declared.sharing.Share.{Share}
-use Rattle.story.specs.Process.{ends}
-use Rattle.story.specs.Performers.{Performer, performer}
-use Rattle.story.specs.InTurns.{InTurns}
+use Rattle.mount_model.specs.Process.{ends}
+use Rattle.mount_model.specs.Performers.{Performer, performer}
+use Rattle.mount_model.specs.InTurns.{InTurns}
 use Rattle.script_lang.specs.declared.line.Line.{Line}
 use Rattle.script_lang.specs.declared.script.ActorDecl.{ActorDecl}
 use Rattle.script_lang.specs.declared.script.Numbered.{Numbered}

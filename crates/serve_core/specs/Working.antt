@@ -6,13 +6,13 @@ use Rattle.mount_model.specs.History.{Event}
 use Rattle.mount_sound.specs.Owed.{Permits}
 use Rattle.mount_sound.specs.Sound.{IsFine}
 use Rattle.mount_core.specs.Memory.{HadMemory}
-use Rattle.story.specs.Safe.{IsSafeProcess}
-use Rattle.story.specs.Turns.{Finishes}
+use Rattle.mount_model.specs.Safe.{IsSafeProcess}
+use Rattle.mount_model.specs.Turns.{Finishes}
 use Rattle.script_lang.specs.declared.line.Line.{Line}
 use Rattle.actor_core.specs.declared.kept.Kept.{Kept}
 use Rattle.actor_core.specs.Progress.{Progress, going}
 use Rattle.actor_core.specs.Standings.{progress_of}
-use Rattle.statement_laws.specs.Coming.{ComesToLine}
+use Rattle.run_core.specs.Coming.{ComesToLine}
 use Rattle.run_core.specs.Broken.{BreaksOff}
 use Rattle.run_core.specs.Course.{Course}
 use Rattle.run_core.specs.Leading.{Leads}

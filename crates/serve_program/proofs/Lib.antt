@@ -1,5 +1,6 @@
 mod Actors
 mod Closings
+mod Commands
 mod Exchanges
 pub mod Facts
 mod Frames

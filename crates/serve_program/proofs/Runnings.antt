@@ -3,7 +3,7 @@ use Rattle.std.proofs.Common.{◌≡◌, ℕ, inl, inr, true, false, List, [], �
 use Rattle.edge_io.specs.Sink.{Taking}
 use Rattle.edge_io.specs.Source.{Given}
 use Rattle.store_api.specs.Acts.{Stored}
-use Rattle.mount_model.specs.declared.trouble.MountTrouble.{MountTrouble}
+use Rattle.mount_model.specs.declared.mount_trouble.MountTrouble.{MountTrouble}
 use Rattle.mount_model.specs.Failing.{FailsToMount}
 use Rattle.mount_model.specs.Mounting.{IsMounted}
 use Rattle.mount_model.specs.State.{State}

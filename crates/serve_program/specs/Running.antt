@@ -3,8 +3,8 @@ use Rattle.std.specs.Prelude.{◌≡◌, ◌+◌, ◌++◌, ◌==◌, ℕ, Bool,
 use Rattle.edge_io.specs.Sink.{Taking}
 use Rattle.edge_io.specs.Source.{Given}
 use Rattle.store_api.specs.Acts.{Stored}
-use Rattle.mount_model.specs.declared.trouble.MountTrouble.{MountTrouble}
-use Rattle.mount_model.specs.declared.trouble.MountTrouble.TheVariants as troubles
+use Rattle.mount_model.specs.declared.mount_trouble.MountTrouble.{MountTrouble}
+use Rattle.mount_model.specs.declared.mount_trouble.MountTrouble.TheVariants as troubles
 use Rattle.mount_model.specs.Failing.{FailsToMount}
 use Rattle.mount_model.specs.Mounting.{IsMounted}
 use Rattle.mount_model.specs.State.{State}

@@ -1,6 +1,6 @@
 //! The words of `plfs_serve`, and the actors of its clients.
-ghost use Rattle.std.specs.Prelude.{◌≡◌, ◌<◌, ℕ, IfNone, IfOk, IfSome};
-ghost use Rattle.serve_program.specs.Words.{IsServeCommand, actor_on, actors_on};
+ghost use Rattle.std.specs.Prelude.{◌≡◌, ◌↔◌, ℕ, List, Option, IfNone, IfOk, IfSome, IsTrue, codes, option_map};
+ghost use Rattle.serve_program.specs.Words.{IsHostSaid, IsServeCommand, actor_on, actors_on};
 
 use frame_format::ACTORS;
 use plfs_types::{Name, NoMemory, Word};
@@ -9,27 +9,59 @@ use script_lang::{ActorDecl, ActorList};
 use std::alloc::Global;
 
 /// The usage line, which words outside the grammar print, with its line feed.
-pub const USAGE: &[u8] = b"usage: plfs_serve ROOT [HOST]\n";
+pub const USAGE: &[u8] = b"usage: plfs_serve ROOT [--at FOLDER] [HOST]\n";
 
-/// Of which host the writers of the clients are.
+/// Where requests come from, and of which host the writers of the clients are.
 #[derive(Clone, Copy)]
-pub struct ServeCommand {
+pub struct ServeCommand<'a> {
+    /// The folder by which processes come, or None where one program speaks on standard input.
+    pub folder: Option<&'a Word>,
+    /// The host of all writers.
     pub host: u32,
 }
 
-impl ServeCommand {
+// Whether a folder follows behind the word.
+fn is_at(word: &Word) -> bool
+    ensures { IsTrue result ↔ (word.now ≡ codes "--at") }
+{
+    word.as_bytes() == b"--at".as_slice()
+}
+
+// The host that these words say, or None exactly where they say none.
+fn host_said(words: &[Word]) -> Option<u32>
+    ensures found { IfSome result (λ host. IsHostSaid words.now host) }
+    ensures none { IfNone result ((host : ℕ) → IsHostSaid words.now host → ⊥) }
+{
+    match words {
+        [] => Some(0),
+        [word] => host_of(word),
+        _ => None,
+    }
+}
+
+impl<'a> ServeCommand<'a> {
     /// The command that the words behind ROOT are, or None exactly where they are none.
-    pub fn read(words: &[Word]) -> Option<ServeCommand>
-        ensures found { IfSome result (λ command. IsServeCommand words.now command.host) }
-        ensures none { IfNone result ((host : ℕ) → IsServeCommand words.now host → ⊥) }
+    pub fn read(words: &'a [Word]) -> Option<ServeCommand<'a>>
+        ensures found { IfSome result (λ command. IsServeCommand words.now (option_map (λ folder. folder.now) command.folder) command.host) }
+        ensures none { IfNone result ((folder : Option (List ℕ)) (host : ℕ) → IsServeCommand words.now folder host → ⊥) }
     {
         match words {
-            [] => Some(ServeCommand { host: 0 }),
-            [word] => match host_of(word) {
-                Some(host) => Some(ServeCommand { host }),
+            [flag, folder, rest @ ..] => {
+                if !is_at(flag) {
+                    return None;
+                }
+                match host_said(rest) {
+                    Some(host) => Some(ServeCommand {
+                        folder: Some(folder),
+                        host,
+                    }),
+                    None => None,
+                }
+            }
+            _ => match host_said(words) {
+                Some(host) => Some(ServeCommand { folder: None, host }),
                 None => None,
             },
-            _ => None,
         }
     }
 }

@@ -2,8 +2,8 @@
 use Rattle.std.proofs.Common.{◌≡◌, ℕ, inl, inr, List, arith}
 use Rattle.edge_io.specs.Sink.{Taking}
 use Rattle.edge_io.specs.Source.{Given}
-use Rattle.mount_model.specs.declared.trouble.MountTrouble.{MountTrouble}
-use Rattle.mount_model.specs.declared.trouble.MountTrouble.TheVariants as troubles
+use Rattle.mount_model.specs.declared.mount_trouble.MountTrouble.{MountTrouble}
+use Rattle.mount_model.specs.declared.mount_trouble.MountTrouble.TheVariants as troubles
 use Rattle.mount_model.specs.Mounting.{IsMounted}
 use Rattle.mount_model.specs.State.{State}
 use Rattle.std.specs.Prelude.{Some}

@@ -10,7 +10,7 @@ use Rattle.store_laws.specs.Files.{file_at}
 use Rattle.mount_model.specs.Paths.{mark_name, mark_path}
 use Rattle.store_api.specs.Names.{marks_folder}
 use Rattle.store_api.specs.Names.{marks_name}
-use Rattle.mount_shape.specs.Marks.{IsOfMark}
+use Rattle.mount_sound.specs.Marks.{IsOfMark}
 use Rattle.shape_check.specs.declared.finding.Finding.{Finding}
 use Rattle.shape_check.specs.Places.{HasMarks}
 use Rattle.shape_check.specs.Rightness.{Fails}

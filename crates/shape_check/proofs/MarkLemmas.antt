@@ -15,7 +15,7 @@ use Rattle.store_laws.proofs.Facts.{path_eq}
 use Rattle.mount_model.specs.Paths.{Name, mark_name, mark_path}
 use Rattle.store_api.specs.Names.{marks_folder}
 use Rattle.store_api.specs.Names.{marks_name}
-use Rattle.mount_shape.specs.Marks.{IsMarkFile, IsMarksRoom}
+use Rattle.mount_sound.specs.Marks.{IsMarkFile, IsMarksRoom}
 use Rattle.tree_laws.specs.Complaints as complaint
 use Rattle.shape_check.specs.declared.finding.Finding.{Finding}
 use Rattle.shape_check.specs.declared.finding.Finding.TheVariants.{Broken, Untold}

@@ -17,8 +17,8 @@ use Rattle.store_laws.specs.There.{AreNamesOf}
 use Rattle.store_laws.proofs.Facts.{path_eq}
 use Rattle.mount_model.specs.Paths.{Name, metadata, truncs, flats, access_path}
 use Rattle.store_api.specs.Names.{marks_name}
-use Rattle.mount_shape.specs.Container.{IsContainerFolder, IsItemFile, MayHold}
-use Rattle.mount_shape.specs.Marks.{IsOfMark}
+use Rattle.mount_sound.specs.Container.{IsContainerFolder, IsItemFile, MayHold}
+use Rattle.mount_sound.specs.Marks.{IsOfMark}
 use Rattle.tree_laws.specs.Complaints as complaint
 use Rattle.shape_check.specs.declared.files.Place.{Place}
 use Rattle.shape_check.specs.declared.finding.Finding.{Finding}

@@ -10,8 +10,8 @@ use Rattle.store_api.specs.Acts.{Stored}
 use Rattle.store_laws.specs.Files.{file_at}
 use Rattle.mount_model.specs.Paths.{Name}
 use Rattle.store_api.specs.Names.{marks_name}
-use Rattle.mount_shape.specs.Container.{IsContainerFolder, IsItemFile}
-use Rattle.mount_shape.specs.Marks.{IsOfMark}
+use Rattle.mount_sound.specs.Container.{IsContainerFolder, IsItemFile}
+use Rattle.mount_sound.specs.Marks.{IsOfMark}
 use Rattle.tree_laws.specs.Listable.{IsListable}
 use Rattle.shape_check.specs.declared.files.Place.{Place}
 use Rattle.shape_check.specs.declared.finding.Finding.{Finding}

@@ -11,7 +11,7 @@ use Rattle.store_laws.specs.There.{AreNamesOf}
 use Rattle.mount_model.specs.Paths.{Name, mark_name}
 use Rattle.store_api.specs.Names.{marks_folder}
 use Rattle.store_api.specs.Names.{marks_name}
-use Rattle.mount_shape.specs.Marks.{IsMarkFile}
+use Rattle.mount_sound.specs.Marks.{IsMarkFile}
 use Rattle.tree_laws.specs.Listable.{IsListable}
 use Rattle.shape_check.specs.Seeing.{IsSeen}
 use Rattle.shape_check.specs.Told.{TellsRoom}

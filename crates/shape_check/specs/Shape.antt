@@ -13,8 +13,8 @@ use Rattle.store_laws.specs.Files.{file_at}
 use Rattle.store_laws.specs.Differ.{is_listed}
 use Rattle.store_laws.specs.There.{AreInOrder}
 use Rattle.mount_model.specs.Paths.{Name, metadata, truncs, flats, access_path}
-use Rattle.mount_shape.specs.Container.{IsContainer, IsContainerFolder}
-use Rattle.mount_shape.specs.Marks.{IsOfMark}
+use Rattle.mount_sound.specs.Container.{IsContainer, IsContainerFolder}
+use Rattle.mount_sound.specs.Marks.{IsOfMark}
 use Rattle.shape_check.specs.declared.files.Place.{Place}
 use Rattle.shape_check.specs.Files.{OfPlace, IsFineItem}
 

@@ -1,7 +1,7 @@
 //! The folders of a container.
 ghost use Rattle.std.specs.Prelude.{◌≡◌, ◌⊎◌, ◌↔◌, ◌<◌, ℕ, [], IsTrue};
 ghost use Rattle.container_layout.specs.Paths.{hostdir_of};
-ghost use Rattle.mount_shape.specs.Container.{IsContainerFolder};
+ghost use Rattle.mount_sound.specs.Container.{IsContainerFolder};
 ghost use Rattle.shape_check.specs.Files.{IsHostdir};
 
 use container_layout::{flats, hostdir, metadata, openhosts, truncs};

@@ -2,7 +2,7 @@
 ghost use Rattle.std.specs.Prelude.{◌≡◌, ◌⊎◌, ◌↔◌, [], Some, IfErr, IfOk, IsTrue, OnOk};
 ghost use Rattle.store_api.specs.declared.tree.Tree.{Tree};
 ghost use Rattle.store_api.specs.Names.{marks_name as marks_room_name, marks_folder as marks_folder_name};
-ghost use Rattle.mount_shape.specs.Marks.{IsMarksRoom, IsOfMark};
+ghost use Rattle.mount_sound.specs.Marks.{IsMarksRoom, IsOfMark};
 ghost use Rattle.shape_check.specs.declared.finding.Complaint.TheVariants.{ForeignFolder};
 ghost use Rattle.shape_check.specs.declared.finding.Finding.TheVariants.{Broken};
 ghost use Rattle.shape_check.specs.Places.{IsMarksPlace, IsMarkName, OfMarks, IsFineMark, IsFineFile, IsFineTop, Each, ShowsNames, HasMarks};

@@ -2,7 +2,7 @@
 ghost use Rattle.std.specs.Prelude.{◌≡◌, ◌≢◌, ◌⊎◌, ◌++◌, [], map, true, IfOk, IfErr, OnOk};
 ghost use Rattle.plfs_types.specs.Names.{IsLogicalName};
 ghost use Rattle.store_api.specs.Room.{has_folder};
-ghost use Rattle.mount_shape.specs.Container.{IsContainerFolder};
+ghost use Rattle.mount_sound.specs.Container.{IsContainerFolder};
 ghost use Rattle.mount_model.specs.Paths.{metadata as metadata_name, truncs as truncs_name, flats as flats_name};
 ghost use Rattle.shape_check.specs.declared.finding.Complaint.TheVariants.{RoomName};
 ghost use Rattle.shape_check.specs.declared.finding.Finding.TheVariants.{Broken};

@@ -1,6 +1,6 @@
 -- What workers came to, one after the other.
 use Rattle.std.proofs.Common.{List, ◌++◌, Result, Ok, Err}
-use Rattle.flow.specs.declared.stuck.Stuck.{Stuck}
+use Rattle.mount_model.specs.declared.stuck.Stuck.{Stuck}
 use Rattle.index_reader.specs.declared.sharing.Share.{Share}
 
 -- these shares, and then the others

@@ -5,8 +5,8 @@ use Rattle.turn_object.specs.History.{entry}
 use Rattle.turn_object.specs.Front.{IsLegalFront}
 use Rattle.turn_object.specs.Calls.{MayAsk, IsCalled}
 use Rattle.turn_object.specs.Pass.{start_of, front, mine_of, IsPassOf}
-use Rattle.flow.specs.Running.{asking, unbroken}
-use Rattle.flow.specs.Standing.{Standing, ready, asked as out, Rest, over, awaits, next_of, rest_of, replied, Awaits, IsOver}
+use Rattle.mount_model.specs.Running.{asking, unbroken}
+use Rattle.mount_model.specs.Standing.{Standing, ready, asked as out, Rest, over, awaits, next_of, rest_of, replied, Awaits, IsOver}
 use Rattle.mount_model.specs.declared.call.Ask.{Ask}
 use Rattle.mount_model.specs.declared.call.Call.{Call}
 use Rattle.mount_model.specs.declared.reply.Reply.{Reply}
@@ -14,10 +14,10 @@ use Rattle.mount_model.specs.declared.reply.Reply.TheVariants.{NoMemory}
 use Rattle.mount_model.specs.Step.{IsStep}
 use Rattle.mount_model.specs.History.{Event}
 use Rattle.mount_sound.specs.Owed.{Permits}
-use Rattle.story.specs.Program.{Program, done, ask}
-use Rattle.story.specs.Safe.{PassSafe}
-use Rattle.story.specs.Going.{HasMade}
-use Rattle.story.proofs.Facts.{made_more, made_none, pass_goes, pass_may}
+use Rattle.mount_model.specs.Program.{Program, done, ask}
+use Rattle.mount_model.specs.Safe.{PassSafe}
+use Rattle.mount_model.specs.Going.{HasMade}
+use Rattle.mount_model.proofs.Stories.Facts.{made_more, made_none, pass_goes, pass_may}
 use Rattle.mount_core.specs.Memory.{HadMemory}
 use Rattle.share_workers.specs.Passes.{ThePass, TheTurn}
 use Rattle.share_workers.specs.Workers.{HasBegun, HasRead, IsWithin}

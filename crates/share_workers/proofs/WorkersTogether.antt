@@ -10,10 +10,10 @@ use Rattle.turn_object.specs.Ended.{as_ended}
 use Rattle.turn_object.specs.Front.{IsLegalFront}
 use Rattle.turn_object.specs.Pass.{start_of, front, parts_of, mine_of, seen_of, ended_of, IsPassOf}
 use Rattle.turn_object.proofs.Facts.{legal_given}
-use Rattle.flow.specs.declared.stuck.Stuck.{Stuck}
-use Rattle.flow.specs.Running.{asking}
-use Rattle.flow.specs.Standing.{ready}
-use Rattle.flow.specs.Replies.{Tries}
+use Rattle.mount_model.specs.declared.stuck.Stuck.{Stuck}
+use Rattle.mount_model.specs.Running.{asking}
+use Rattle.mount_model.specs.Standing.{ready}
+use Rattle.mount_model.specs.FlowReplies.{Tries}
 use Rattle.mount_model.specs.declared.reply.Reply.TheVariants.{NoMemory}
 use Rattle.mount_model.specs.State.{State}
 use Rattle.mount_model.specs.Step.{IsStep}
@@ -22,12 +22,12 @@ use Rattle.mount_sound.specs.Owed.{Permits}
 use Rattle.index_reader.specs.declared.sharing.Share.{Share}
 use Rattle.index_reader.specs.declared.sharing.ShareRead.{ShareRead}
 use Rattle.index_reader.specs.Stages.{share_standing}
-use Rattle.story.specs.Program.{ask, done}
-use Rattle.story.specs.Safe.{AreFree, IsSafe, PassSafe}
-use Rattle.story.specs.Calls.{AreCallsOf, AreCallsOfEach}
-use Rattle.story.specs.MakesCalls.{with_numbers}
-use Rattle.story.specs.Going.{IsNewTo, HasJoined}
-use Rattle.story.proofs.Facts.{absent_made, took_more, took_none}
+use Rattle.mount_model.specs.Program.{ask, done}
+use Rattle.mount_model.specs.Safe.{AreFree, IsSafe, PassSafe}
+use Rattle.mount_model.specs.Calls.{AreCallsOf, AreCallsOfEach}
+use Rattle.mount_model.specs.MakesCalls.{with_numbers}
+use Rattle.mount_model.specs.Going.{IsNewTo, HasJoined}
+use Rattle.mount_model.proofs.Stories.Facts.{absent_made, took_more, took_none}
 use Rattle.gather_flow.specs.Workers.{Reading, IsMachineOf, AreMachinesOf}
 use Rattle.share_workers.specs.declared.worker.Part.TheVariants.{ToRead, Read}
 use Rattle.mount_core.specs.Memory.{HadMemory, HadMemoryBeforeLast}

@@ -2,9 +2,9 @@
 use Rattle.std.specs.Prelude.{◌≡◌, ◌<◌, ◌+◌, ℕ, Bool, true, List, [], ◌∷◌, ◌++◌, All, Result, length, map, slice_index_or}
 use Rattle.turn_object.specs.Front.{IsLegalFront}
 use Rattle.turn_object.specs.Pass.{start_of, front, parts_of, mine_of, seen_of, ended_of, IsPassOf}
-use Rattle.flow.specs.declared.stuck.Stuck.{Stuck}
-use Rattle.flow.specs.Running.{asking}
-use Rattle.flow.specs.Standing.{Standing, ready}
+use Rattle.mount_model.specs.declared.stuck.Stuck.{Stuck}
+use Rattle.mount_model.specs.Running.{asking}
+use Rattle.mount_model.specs.Standing.{Standing, ready}
 use Rattle.mount_model.specs.declared.call.Ask.{Ask}
 use Rattle.mount_model.specs.declared.call.Call.{Call}
 use Rattle.mount_model.specs.declared.reply.Reply.{Reply}
@@ -13,10 +13,10 @@ use Rattle.mount_model.specs.History.{Event}
 use Rattle.mount_sound.specs.Owed.{Permits}
 use Rattle.index_reader.specs.declared.sharing.Share.{Share}
 use Rattle.index_reader.specs.declared.sharing.ShareRead.{ShareRead}
-use Rattle.story.specs.Program.{Program, done}
-use Rattle.story.specs.Calls.{AreCallsOf, AreCallsOfEach}
-use Rattle.story.specs.Safe.{PassSafe}
-use Rattle.story.specs.Going.{IsNewTo, HasJoined, HasMade}
+use Rattle.mount_model.specs.Program.{Program, done}
+use Rattle.mount_model.specs.Calls.{AreCallsOf, AreCallsOfEach}
+use Rattle.mount_model.specs.Safe.{PassSafe}
+use Rattle.mount_model.specs.Going.{IsNewTo, HasJoined, HasMade}
 use Rattle.gather_flow.specs.Workers.{Reading, IsMachineOf}
 use Rattle.share_workers.specs.declared.worker.Worker.{Worker}
 use Rattle.share_workers.specs.declared.worker.Part.TheVariants.{ToRead, Read}

@@ -2,8 +2,8 @@
 ghost use Rattle.std.specs.Prelude.{IfOk};
 ghost use Rattle.gather_flow.specs.Workers.{IsOutcomeOf};
 
-use flow::Stuck;
 use index_reader::{Share, ShareList, join_shares};
+use mount_model::Stuck;
 use plfs_types::NoMemory;
 use std::alloc::Global;
 use std::thread::Threads;

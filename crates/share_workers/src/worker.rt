@@ -1,23 +1,22 @@
 //! A worker of a reader.
 ghost use Rattle.std.specs.Prelude.{◌≡◌, IfOk};
-ghost use Rattle.flow.specs.Running.{asking};
-ghost use Rattle.flow.specs.Standing.{ready};
+ghost use Rattle.mount_model.specs.Running.{asking};
+ghost use Rattle.mount_model.specs.Standing.{ready};
 ghost use Rattle.mount_model.specs.declared.call.Call.{Call as ACall};
 ghost use Rattle.mount_model.specs.declared.reply.Reply.{Reply as AReply};
 ghost use Rattle.mount_model.specs.Step.{IsStep};
 ghost use Rattle.mount_sound.specs.Owed.{Permits};
 ghost use Rattle.turn_object.specs.Front.{IsLegalFront};
 ghost use Rattle.turn_object.specs.Pass.{start_of, front, ended_of, IsPassOf};
-ghost use Rattle.story.specs.Program.{Program};
-ghost use Rattle.story.specs.Safe.{PassSafe};
+ghost use Rattle.mount_model.specs.Program.{Program};
+ghost use Rattle.mount_model.specs.Safe.{PassSafe};
 ghost use Rattle.share_workers.specs.Passes.{IsAfter};
 ghost use Rattle.share_workers.specs.Workers.{HasBegun, HasRead, CanRead, Works};
 
 use edge_io::{Clock, Gate};
-use flow::{Flow, Stuck};
 use index_reader::{Share, ShareRead};
 use mount_core::Mount;
-use mount_model::Ask;
+use mount_model::{Ask, Flow, Stuck};
 use plfs_types::NoMemory;
 use std::mem;
 use std::sync::Wait;

@@ -1,26 +1,26 @@
 //! The workers of a reader, each on a thread and with a pass of its own.
 ghost use Rattle.std.specs.Prelude.{◌≡◌, ◌<◌, ◌+◌, ℕ, List, [], ◌∷◌, ◌++◌, true, All, length, map, vec_len, IfOk, OnOk, OnErr, Result as AResult};
-ghost use Rattle.flow.specs.declared.stuck.Stuck.{Stuck as AStuck};
+ghost use Rattle.mount_model.specs.declared.stuck.Stuck.{Stuck as AStuck};
 ghost use Rattle.index_reader.specs.declared.sharing.Share.{Share as AShare};
 ghost use Rattle.mount_model.specs.Step.{IsStep};
 ghost use Rattle.mount_sound.specs.Owed.{Permits};
 ghost use Rattle.turn_object.specs.History.{state_after};
 ghost use Rattle.turn_object.specs.Front.{IsLegalFront};
 ghost use Rattle.turn_object.specs.Pass.{start_of, front, parts_of, mine_of, seen_of, ended_of, IsPassOf};
-ghost use Rattle.story.specs.Safe.{AreFree};
+ghost use Rattle.mount_model.specs.Safe.{AreFree};
 ghost use Rattle.gather_flow.specs.Workers.{Reading, AreMachinesOf, IsOutcomeOf};
 ghost use Rattle.share_workers.specs.declared.worker.Part.TheVariants.{ToRead, Read as HasRead};
-ghost use Rattle.story.specs.Going.{HasJoined};
+ghost use Rattle.mount_model.specs.Going.{HasJoined};
 ghost use Rattle.share_workers.specs.Workers.{IsGiven, CanRead, EachWorks, EachHasWorked, CanJoin, HaveBegun, HaveRead, calls_of_worker};
 ghost use Rattle.share_workers.specs.Passes.{IsAfter};
 
 use crate::outcome::outcome_of;
 use crate::worker::{Part, Worker, work};
 use edge_io::{Clock, Gate};
-use flow::Stuck;
 use gather_flow::WorkList;
 use index_reader::Share;
 use mount_core::Mount;
+use mount_model::Stuck;
 use plfs_types::NoMemory;
 use std::alloc::{AllocFailed, Global};
 use std::sync::Wait;

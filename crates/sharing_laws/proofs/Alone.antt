@@ -3,16 +3,16 @@ use Rattle.std.proofs.Common.{◌≡◌, ◌⊎◌, inl, inr, ℕ, List, [], ◌
 use Rattle.std.proofs.lemmas.List.{append-nil}
 use Rattle.plfs_types.specs.declared.entries.Trunc.{Trunc}
 use Rattle.turn_object.specs.Callers.{made_by}
-use Rattle.story.specs.Calls.{AreCallsOf}
-use Rattle.story.specs.Program.{Program, done, followed_by}
-use Rattle.story.proofs.Facts.{entries_both}
+use Rattle.mount_model.specs.Calls.{AreCallsOf}
+use Rattle.mount_model.specs.Program.{Program, done, followed_by}
+use Rattle.mount_model.proofs.Stories.Facts.{entries_both}
 use Rattle.mount_model.specs.declared.call.Call.{Call}
 use Rattle.mount_model.specs.declared.reply.Reply.{Reply}
 use Rattle.mount_model.specs.History.{Event}
-use Rattle.flow.specs.declared.stuck.Stuck.{Stuck}
-use Rattle.flow.specs.Running.{asking, Runs}
-use Rattle.flow.specs.Replies.{Tries, on_ok}
-use Rattle.flow.proofs.Facts.{runs_in_two}
+use Rattle.mount_model.specs.declared.stuck.Stuck.{Stuck}
+use Rattle.mount_model.specs.Running.{asking, Runs}
+use Rattle.mount_model.specs.FlowReplies.{Tries, on_ok}
+use Rattle.mount_model.proofs.Flows.Facts.{runs_in_two}
 use Rattle.index_reader.specs.declared.listing.Listing.{Listing}
 use Rattle.index_reader.specs.declared.sharing.Share.{Share}
 use Rattle.index_reader.specs.Sharing.{share_program}

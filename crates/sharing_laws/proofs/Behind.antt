@@ -7,16 +7,16 @@ use Rattle.plain_file.specs.Runs.{AreRuns}
 use Rattle.plain_file.proofs.Facts.{Among, All-Among}
 use Rattle.mount_model.specs.History.{Event}
 use Rattle.mount_sound.specs.Owed.{IsLawful}
-use Rattle.flow.specs.Running.{Runs}
-use Rattle.flow.specs.Replies.{Tries}
+use Rattle.mount_model.specs.Running.{Runs}
+use Rattle.mount_model.specs.FlowReplies.{Tries}
 use Rattle.index_reader.specs.declared.listing.Dropping.{Dropping as Listed}
 use Rattle.index_reader.specs.declared.listing.Listing.{Listing}
 use Rattle.index_reader.specs.declared.sharing.Share.{Share}
 use Rattle.index_reader.specs.Gathered.{pieces_of_each}
 use Rattle.index_reader.specs.Sharing.{share_program}
-use Rattle.gathering.specs.Moments.{Moment, IsNamed, IsSoundAt, moment_after}
-use Rattle.gathering.specs.Seen.{calls_of}
-use Rattle.gathering.proofs.Facts.{among_left, among_right, legal_first, legal_rest, sound_after}
+use Rattle.reader_laws.specs.Moments.{Moment, IsNamed, IsSoundAt, moment_after}
+use Rattle.reader_laws.specs.Seen.{calls_of}
+use Rattle.reader_laws.proofs.Gathered.Facts.{among_left, among_right, legal_first, legal_rest, sound_after}
 use Rattle.reader_laws.specs.Listing.{HasListed}
 use Rattle.reader_laws.specs.Opened.{HasOpenedIn}
 use Rattle.reader_laws.specs.Opening.{Lists, Portion, ReadsInTurn, Work, droppings_of, portions_of, shares_of}

@@ -10,7 +10,7 @@ use Rattle.plain_file.proofs.Facts.{Among, All-Among}
 use Rattle.index_reader.specs.declared.listing.Dropping.{Dropping as Listed}
 use Rattle.index_reader.specs.Listing.{AreByWriter}
 use Rattle.plfs_types.specs.Places.{IsAmong}
-use Rattle.gathering.proofs.Facts.{among_left, among_right, is_among}
+use Rattle.reader_laws.proofs.Gathered.Facts.{among_left, among_right, is_among}
 use Rattle.reader_laws.specs.Opening.{Portion, droppings_of, WritersDiffer, AreDealt}
 use Rattle.gather_flow.specs.Dealing.{its_own, dealt_to}
 use Rattle.sharing_laws.specs.Dealing.{dealt_all}

@@ -6,10 +6,10 @@ use Rattle.mount_model.specs.Paths.{Name}
 use Rattle.mount_model.specs.History.{Event}
 use Rattle.mount_sound.specs.Owed.{IsLawful}
 use Rattle.index_reader.specs.declared.listing.Listing.{Listing}
-use Rattle.gathering.specs.Flats.{IsFlatName, TakesNewest, pieces_of}
-use Rattle.gathering.specs.Moments.{Moment, IsSoundAt, moment_after}
-use Rattle.gathering.specs.Seen.{Asked, calls_of, IsSeen}
-use Rattle.gathering.proofs.Facts.{WasRight, any_found, flat_right, seen, seen_split}
+use Rattle.reader_laws.specs.Flats.{IsFlatName, TakesNewest, pieces_of}
+use Rattle.reader_laws.specs.Moments.{Moment, IsSoundAt, moment_after}
+use Rattle.reader_laws.specs.Seen.{Asked, calls_of, IsSeen}
+use Rattle.reader_laws.proofs.Gathered.Facts.{WasRight, any_found, flat_right, seen, seen_split}
 use Rattle.reader_laws.specs.Listing.{HasListed}
 
 -- the pieces of the flattened index that a listing read are in order

@@ -2,7 +2,7 @@
 //! make one reader.
 //!
 //! The crate owns the law that each dropping is dealt once, and lemmas on shares that are read one after the other or by workers.
-//! `opening_laws` and `play_laws` cite them. There is no code in it.
+//! `opening_laws` and `headline_laws` cite them. There is no code in it.
 #![tactic(auto)]
 
 mod laws;

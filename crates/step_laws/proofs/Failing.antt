@@ -4,8 +4,8 @@ use Rattle.store_api.specs.declared.step.Answer.TheVariants as answer
 use Rattle.store_api.specs.declared.store.Trouble.TheVariants as told_trouble
 use Rattle.store_api.specs.Step.{Step}
 use Rattle.store_api.specs.Acts.{Stored, Acts}
-use Rattle.mount_model.specs.declared.trouble.MountTrouble.{MountTrouble}
-use Rattle.mount_model.specs.declared.trouble.MountTrouble.TheVariants.{Damaged, NoMemory}
+use Rattle.mount_model.specs.declared.mount_trouble.MountTrouble.{MountTrouble}
+use Rattle.mount_model.specs.declared.mount_trouble.MountTrouble.TheVariants.{Damaged, NoMemory}
 use Rattle.mount_model.specs.Paths.{Name}
 use Rattle.mount_model.specs.Listed.{IsMarkOf}
 use Rattle.mount_model.specs.State.{State}

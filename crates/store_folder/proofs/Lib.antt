@@ -15,3 +15,4 @@ pub mod FailedRooms
 pub mod Ending
 pub mod Removing
 pub mod Attempted
+mod ActingOpen

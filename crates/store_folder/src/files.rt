@@ -15,7 +15,7 @@ ghost use Rattle.store_folder.specs.Rooms.{IsStill, HasRooms, InRoom};
 
 use crate::disk::Disk;
 use crate::folders::{Spot, enter, item_path};
-use folder_calls::{Calls, Failure, FileKey, Held, Kind, OpenFiles, OwnFiles};
+use folder_calls::{Calls, Failure, FileKey, Held, Kind, OpenFiles};
 use plfs_types::Name;
 use std::alloc::Global;
 use store_api::{Answer, Step};
@@ -117,8 +117,25 @@ impl<C: Calls<File = F>, F: Drop> Disk<C, F> {
         found
     }
 
-    /// Makes a step on an open file. After a failure the file is closed, so that its length is asked again.
+    /// Makes a step on a file. It is then the one that was used last. After a failure the file is closed, so that its
+    /// length is asked again.
     pub fn act_at(&mut self, key: &FileKey, step: &Step<'_>) -> Result<Answer, Failure>
+        ensures ends { file_of (step_of step.now) ≡ Some key.now → EndsAmongRooms C.log self.old self.new (step_of step.now) result }
+    {
+        if key.room as usize >= self.rooms.len() {
+            return self.find_and_act(key, step);
+        }
+        let acted = self
+            .open
+            .act(&mut self.own, &mut self.calls, self.alloc, key, step);
+        match acted {
+            Some(end) => end,
+            None => self.find_and_act(key, step),
+        }
+    }
+
+    // Finds the file, and makes the step on it.
+    fn find_and_act(&mut self, key: &FileKey, step: &Step<'_>) -> Result<Answer, Failure>
         ensures ends { file_of (step_of step.now) ≡ Some key.now → EndsAmongRooms C.log self.old self.new (step_of step.now) result }
     {
         let found = match self.find(key) {
@@ -128,22 +145,12 @@ impl<C: Calls<File = F>, F: Drop> Disk<C, F> {
         match found {
             Found::Not(answer) => Ok(answer),
             Found::There(mut held) => {
-                own_if_empty(&mut self.own, key, &held);
+                self.own.add_if_empty(key, &held);
                 let answer = held.act(&mut self.calls, self.alloc, step)?;
                 self.open.keep(*key, held);
                 Ok(answer)
             }
         }
-    }
-}
-
-// Takes the file for this run's own where it has no bytes yet.
-fn own_if_empty<F: Drop>(own: &mut OwnFiles, key: &FileKey, held: &Held<F>)
-    ensures only { (other : FileKey) → is_own own.new other ≡ true → (is_own own.old other ≡ true) ⊎ ((same_file key.now other ≡ true) × (held.now.len ≡ 0)) }
-    ensures lasts { (other : FileKey) → is_own own.old other ≡ true → is_own own.new other ≡ true }
-{
-    if held.is_empty() {
-        own.add(*key);
     }
 }
 

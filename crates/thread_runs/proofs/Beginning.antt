@@ -11,11 +11,11 @@ use Rattle.turn_object.specs.Callers.{made_by, IsOwn}
 use Rattle.turn_object.specs.Ended.{as_ended, AreApart, EndedIn}
 use Rattle.turn_object.specs.Front.{KeepsIn, IsLegalFront, IsWhole}
 use Rattle.turn_object.specs.Pass.{start_of, front, mine_of, seen_of, ended_of}
-use Rattle.story.specs.Process.{ends}
-use Rattle.story.specs.Performers.{left_of}
-use Rattle.story.specs.MakesCalls.{Role, MakesCalls, EachPlays, callers, with_numbers}
-use Rattle.story.specs.Players.{player, HasEnded, processes_of, told_by, ended_by}
-use Rattle.story.proofs.Facts.{ends_story, entries_not_first}
+use Rattle.mount_model.specs.Process.{ends}
+use Rattle.mount_model.specs.Performers.{left_of}
+use Rattle.mount_model.specs.MakesCalls.{Role, MakesCalls, EachPlays, callers, with_numbers}
+use Rattle.mount_model.specs.Players.{player, HasEnded, processes_of, told_by, ended_by}
+use Rattle.mount_model.proofs.Stories.Facts.{ends_story, entries_not_first}
 use Rattle.mount_model.specs.declared.call.Ask.{Ask}
 use Rattle.mount_model.specs.declared.reply.Reply.{Reply}
 use Rattle.mount_model.specs.State.{State}

@@ -5,7 +5,7 @@ use Rattle.turn_object.specs.History.{StartsWith}
 use Rattle.turn_object.specs.Front.{IsLegalFront}
 use Rattle.turn_object.specs.Pass.{start_of, front, parts_of, seen_of, IsPassOf}
 use Rattle.turn_object.proofs.Facts.{legal_kept}
-use Rattle.story.specs.MakesCalls.{one_history}
+use Rattle.mount_model.specs.MakesCalls.{one_history}
 use Rattle.mount_model.specs.Step.{IsStep}
 use Rattle.mount_model.specs.History.{Event}
 use Rattle.mount_sound.specs.Owed.{Permits}

@@ -12,11 +12,11 @@ use Rattle.turn_object.specs.Front.{IsLegalFront, IsWhole}
 use Rattle.turn_object.specs.Shares.{longer}
 use Rattle.turn_object.specs.Pass.{start_of, front, parts_of, mine_of, seen_of, ended_of, IsPassOf}
 use Rattle.turn_object.proofs.Facts.{squeeze, longer_begins, longer_is}
-use Rattle.story.specs.Process.{ends}
-use Rattle.story.specs.Performers.{left_of}
-use Rattle.story.specs.MakesCalls.{MakesCalls}
-use Rattle.story.specs.Players.{Player, player, HasEnded, processes_of, told_by, ended_by}
-use Rattle.story.proofs.Facts.{ends_story}
+use Rattle.mount_model.specs.Process.{ends}
+use Rattle.mount_model.specs.Performers.{left_of}
+use Rattle.mount_model.specs.MakesCalls.{MakesCalls}
+use Rattle.mount_model.specs.Players.{Player, player, HasEnded, processes_of, told_by, ended_by}
+use Rattle.mount_model.proofs.Stories.Facts.{ends_story}
 use Rattle.mount_model.specs.declared.call.Ask.{Ask}
 use Rattle.mount_model.specs.declared.reply.Reply.{Reply}
 use Rattle.mount_model.specs.declared.reply.Reply.TheVariants.{NoMemory}
@@ -24,7 +24,7 @@ use Rattle.mount_model.specs.State.{State}
 use Rattle.mount_model.specs.Step.{IsStep}
 use Rattle.mount_model.specs.History.{Event}
 use Rattle.mount_sound.specs.Owed.{IsLawful, Permits}
-use Rattle.flow.specs.declared.stuck.Stuck.{Stuck}
+use Rattle.mount_model.specs.declared.stuck.Stuck.{Stuck}
 use Rattle.index_reader.specs.declared.sharing.Share.{Share}
 use Rattle.script_lang.specs.declared.line.Line.{Line}
 use Rattle.script_lang.specs.declared.script.ActorDecl.{ActorDecl}

@@ -15,10 +15,10 @@ use Rattle.script_lang.specs.declared.script.ActorDecl.{ActorDecl}
 use Rattle.script_lang.specs.declared.script.Numbered.{Numbered}
 use Rattle.script_lang.specs.declared.script.Phase.{Phase}
 use Rattle.script_lang.specs.declared.script.Statement.{Statement}
-use Rattle.story.specs.Process.{ends, pauses, tells, asks, shares}
-use Rattle.story.specs.Plays.{Plays, PlaysAll}
-use Rattle.story.specs.MakesCalls.{Role, one_history, EachPlays}
-use Rattle.story.specs.Performers.{left_of, told_at}
+use Rattle.mount_model.specs.Process.{ends, pauses, tells, asks, shares}
+use Rattle.mount_model.specs.Plays.{Plays, PlaysAll}
+use Rattle.mount_model.specs.MakesCalls.{Role, one_history, EachPlays}
+use Rattle.mount_model.specs.Performers.{left_of, told_at}
 use Rattle.actor_core.specs.declared.kept.Kept.{Kept}
 use Rattle.actor_core.specs.Work.{Work}
 use Rattle.actor_core.specs.Progress.{fresh}

@@ -16,9 +16,9 @@ use Rattle.mount_sound.specs.Sound.{IsFine}
 use Rattle.mount_sound.proofs.Facts.{step_fine}
 use Rattle.script_lang.specs.declared.line.Line.{Line}
 use Rattle.script_lang.specs.declared.script.Numbered.{Numbered}
-use Rattle.story.specs.Process.{ends, pauses, tells, asks, shares}
-use Rattle.story.specs.Safe.{PassSafeProcess}
-use Rattle.story.proofs.Facts.{process_may, safe_call}
+use Rattle.mount_model.specs.Process.{ends, pauses, tells, asks, shares}
+use Rattle.mount_model.specs.Safe.{PassSafeProcess}
+use Rattle.mount_model.proofs.Stories.Facts.{process_may, safe_call}
 use Rattle.actor_core.specs.declared.kept.Kept.{Kept}
 use Rattle.actor_core.specs.Work.{Work}
 use Rattle.actor_core.specs.Progress.{Progress, idle, going, asked, handed, told, next_ask, ask_of, given, with_reply, waiting_line, line_taken, line_of, IsIdle, IsReady, IsAsked}

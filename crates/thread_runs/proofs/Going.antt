@@ -15,17 +15,17 @@ use Rattle.mount_model.specs.State.{State}
 use Rattle.mount_model.specs.Step.{IsStep}
 use Rattle.mount_model.specs.History.{Event}
 use Rattle.mount_sound.specs.Owed.{Permits}
-use Rattle.flow.specs.declared.stuck.Stuck.{Stuck}
-use Rattle.flow.specs.declared.stuck.Stuck.TheVariants.{Fault}
+use Rattle.mount_model.specs.declared.stuck.Stuck.{Stuck}
+use Rattle.mount_model.specs.declared.stuck.Stuck.TheVariants.{Fault}
 use Rattle.gather_flow.specs.Workers.{Reading}
 use Rattle.index_reader.specs.declared.sharing.Share.{Share}
 use Rattle.script_lang.specs.declared.line.Line.{Line}
-use Rattle.story.specs.Program.{Program, done, ask}
-use Rattle.story.specs.Calls.{AreCallsOf, AreCallsOfEach}
-use Rattle.story.specs.Going.{IsNewTo, HasJoined}
-use Rattle.story.specs.Process.{ends, tells, asks, shares}
-use Rattle.story.specs.MakesCalls.{with_numbers}
-use Rattle.story.proofs.Facts.{went_none, went_then, went_tells, went_call, went_alone, went_shares}
+use Rattle.mount_model.specs.Program.{Program, done, ask}
+use Rattle.mount_model.specs.Calls.{AreCallsOf, AreCallsOfEach}
+use Rattle.mount_model.specs.Going.{IsNewTo, HasJoined}
+use Rattle.mount_model.specs.Process.{ends, tells, asks, shares}
+use Rattle.mount_model.specs.MakesCalls.{with_numbers}
+use Rattle.mount_model.proofs.Stories.Facts.{went_none, went_then, went_tells, went_call, went_alone, went_shares}
 use Rattle.run_core.specs.Course.{Course}
 use Rattle.share_workers.specs.Passes.{View}
 use Rattle.share_workers.proofs.Facts.{memory_both, refused_last}

@@ -8,7 +8,7 @@ use Rattle.mount_model.specs.declared.call.Ask.{Ask}
 use Rattle.mount_model.specs.declared.reply.Reply.{Reply}
 use Rattle.mount_model.specs.State.{State}
 use Rattle.mount_model.specs.History.{Event}
-use Rattle.story.specs.MakesCalls.{with_numbers}
+use Rattle.mount_model.specs.MakesCalls.{with_numbers}
 use Rattle.mount_core.specs.Memory.{HadMemory, HadMemoryBeforeLast}
 use Rattle.mount_core.proofs.Memory.{none_refused}
 use Rattle.thread_runs.specs.Going.{EndedWithMemory, EndedWithMemoryBeforeLast}

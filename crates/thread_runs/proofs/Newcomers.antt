@@ -6,8 +6,8 @@ use Rattle.std.specs.List.{All}
 use Rattle.turn_object.specs.Front.{IsHistory, IsLegalFront}
 use Rattle.turn_object.specs.Pass.{start_of, front, parts_of, mine_of, seen_of, ended_of, IsPassOf}
 use Rattle.turn_object.proofs.Facts.{legal_new}
-use Rattle.story.specs.Players.{player, HasPlayed}
-use Rattle.story.proofs.Facts.{played_none}
+use Rattle.mount_model.specs.Players.{player, HasPlayed}
+use Rattle.mount_model.proofs.Stories.Facts.{played_none}
 use Rattle.mount_model.specs.Step.{IsStep}
 use Rattle.mount_model.specs.History.{Event}
 use Rattle.mount_sound.specs.Owed.{Permits}

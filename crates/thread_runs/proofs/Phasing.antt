@@ -7,12 +7,12 @@ use Rattle.turn_object.specs.History.{StartsWith, Happens, state_after}
 use Rattle.turn_object.specs.Front.{IsLegalFront}
 use Rattle.turn_object.specs.Pass.{start_of, front, mine_of, seen_of, ended_of}
 use Rattle.turn_object.proofs.Facts.{squeeze, longer_begins, longer_is, starts_after, legal_kept}
-use Rattle.story.specs.Program.{Program, done, ask}
-use Rattle.story.specs.Process.{ends, pauses, tells, asks, shares}
-use Rattle.story.specs.Safe.{IsSafe, IsSafeProcess, PassSafeProcess}
-use Rattle.story.specs.Going.{HasGone}
-use Rattle.story.specs.Players.{player, HasPlayed}
-use Rattle.story.proofs.Facts.{played_sees, played_phase, went_none}
+use Rattle.mount_model.specs.Program.{Program, done, ask}
+use Rattle.mount_model.specs.Process.{ends, pauses, tells, asks, shares}
+use Rattle.mount_model.specs.Safe.{IsSafe, IsSafeProcess, PassSafeProcess}
+use Rattle.mount_model.specs.Going.{HasGone}
+use Rattle.mount_model.specs.Players.{player, HasPlayed}
+use Rattle.mount_model.proofs.Stories.Facts.{played_sees, played_phase, went_none}
 use Rattle.mount_model.specs.declared.call.Ask.{Ask}
 use Rattle.mount_model.specs.declared.reply.Reply.{Reply}
 use Rattle.mount_model.specs.State.{State}

@@ -7,8 +7,8 @@ use Rattle.plfs_types.specs.Counts.{HasRisen}
 use Rattle.mount_model.specs.declared.call.Ask.{Ask}
 use Rattle.mount_model.specs.declared.reply.Reply.{Reply}
 use Rattle.mount_model.specs.State.{State}
-use Rattle.story.specs.MakesCalls.{MakesCalls}
-use Rattle.story.specs.Performers.{left_of, told_at, told_by_each}
+use Rattle.mount_model.specs.MakesCalls.{MakesCalls}
+use Rattle.mount_model.specs.Performers.{left_of, told_at, told_by_each}
 use Rattle.script_lang.specs.declared.line.Line.{Line}
 use Rattle.script_lang.specs.declared.line.Outcome.{Outcome}
 use Rattle.script_lang.specs.declared.script.Statement.{Statement}

@@ -4,14 +4,14 @@ use Rattle.std.specs.Prelude.{OnOk}
 use Rattle.turn_object.specs.History.{state_after}
 use Rattle.turn_object.specs.Front.{IsLegalFront}
 use Rattle.turn_object.specs.Pass.{start_of, front, IsPassOf}
-use Rattle.flow.specs.declared.stuck.Stuck.{Stuck}
+use Rattle.mount_model.specs.declared.stuck.Stuck.{Stuck}
 use Rattle.mount_model.specs.Step.{IsStep}
 use Rattle.mount_sound.specs.Owed.{Permits}
 use Rattle.index_reader.specs.declared.sharing.Share.{Share}
 use Rattle.index_reader.specs.declared.sharing.ShareRead.{ShareRead}
-use Rattle.story.specs.Process.{ends, pauses, tells, asks, shares}
-use Rattle.story.specs.Safe.{AreFree, PassSafeProcess}
-use Rattle.story.proofs.Facts.{safe_shares, safe_worker}
+use Rattle.mount_model.specs.Process.{ends, pauses, tells, asks, shares}
+use Rattle.mount_model.specs.Safe.{AreFree, PassSafeProcess}
+use Rattle.mount_model.proofs.Stories.Facts.{safe_shares, safe_worker}
 use Rattle.actor_core.specs.declared.kept.Kept.{Kept}
 use Rattle.actor_core.specs.Work.{Work}
 use Rattle.actor_core.specs.Progress.{Progress, idle, going, asked, handed, told, IsIdle}

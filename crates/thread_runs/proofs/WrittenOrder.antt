@@ -8,7 +8,7 @@ use Rattle.std.proofs.Math.Seq.{take-length}
 use Rattle.script_lang.specs.declared.line.Line.{Line}
 use Rattle.script_lang.specs.declared.script.Numbered.{Numbered}
 use Rattle.script_lang.specs.declared.script.Phase.{Phase}
-use Rattle.story.specs.Performers.{told_at}
+use Rattle.mount_model.specs.Performers.{told_at}
 use Rattle.run_core.specs.Cast.{statements_in}
 use Rattle.run_core.specs.Course.{own}
 use Rattle.run_core.specs.Written.{whose}

@@ -1,8 +1,8 @@
 -- What a run has made.
 use Rattle.std.specs.Prelude.{ℕ, List}
 use Rattle.turn_object.specs.Callers.{made_by}
-use Rattle.story.specs.MakesCalls.{MakesCalls}
-use Rattle.story.specs.Performers.{left_of}
+use Rattle.mount_model.specs.MakesCalls.{MakesCalls}
+use Rattle.mount_model.specs.Performers.{left_of}
 use Rattle.mount_model.specs.State.{State}
 use Rattle.mount_model.specs.History.{Event}
 use Rattle.script_lang.specs.declared.line.Line.{Line}

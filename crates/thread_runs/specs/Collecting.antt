@@ -2,7 +2,7 @@
 use Rattle.std.specs.Prelude.{◌≡◌, ◌≤◌, ℕ, List, [], ◌∷◌, ◌++◌, Some, Result, Ok, Err, length, map, set, slice_get}
 use Rattle.script_lang.specs.declared.line.Line.{Line}
 use Rattle.script_lang.specs.declared.script.Numbered.{Numbered}
-use Rattle.story.specs.Performers.{told_at}
+use Rattle.mount_model.specs.Performers.{told_at}
 use Rattle.run_core.specs.Course.{own}
 use Rattle.run_core.specs.Written.{whose}
 use Rattle.thread_runs.specs.declared.told.Told.{Told}

@@ -7,8 +7,8 @@ use Rattle.mount_model.specs.declared.reply.Reply.{Reply}
 use Rattle.mount_model.specs.State.{State}
 use Rattle.mount_model.specs.History.{Event}
 use Rattle.script_lang.specs.declared.line.Line.{Line}
-use Rattle.story.specs.Process.{ends}
-use Rattle.story.specs.Going.{HasGone}
+use Rattle.mount_model.specs.Process.{ends}
+use Rattle.mount_model.specs.Going.{HasGone}
 use Rattle.run_core.specs.Course.{Course}
 use Rattle.mount_core.specs.Memory.{HadMemory, HadMemoryBeforeLast}
 use Rattle.share_workers.specs.Passes.{View}

@@ -5,8 +5,8 @@ use Rattle.turn_object.specs.History.{StartsWith}
 use Rattle.turn_object.specs.Front.{IsLegalFront}
 use Rattle.turn_object.specs.Shares.{longer}
 use Rattle.turn_object.specs.Pass.{start_of, front, parts_of, mine_of, seen_of, ended_of, IsPassOf}
-use Rattle.story.specs.Process.{ends}
-use Rattle.story.specs.Players.{player, HasPlayed}
+use Rattle.mount_model.specs.Process.{ends}
+use Rattle.mount_model.specs.Players.{player, HasPlayed}
 use Rattle.mount_model.specs.declared.call.Ask.{Ask}
 use Rattle.mount_model.specs.State.{State}
 use Rattle.mount_model.specs.Step.{IsStep}

@@ -1,8 +1,8 @@
 -- How far actors come in what they do, where memory is wanting.
 use Rattle.std.specs.Prelude.{ℕ, zero, suc, List, [], ◌∷◌, Err}
-use Rattle.flow.specs.declared.stuck.Stuck.TheVariants.{Fault}
-use Rattle.story.specs.Program.{done, ask}
-use Rattle.story.specs.Process.{ends, pauses, tells, asks, shares}
+use Rattle.mount_model.specs.declared.stuck.Stuck.TheVariants.{Fault}
+use Rattle.mount_model.specs.Program.{done, ask}
+use Rattle.mount_model.specs.Process.{ends, pauses, tells, asks, shares}
 use Rattle.gather_flow.specs.Workers.{Reading}
 use Rattle.run_core.specs.Course.{Course}
 

@@ -5,7 +5,7 @@ use Rattle.turn_object.specs.declared.history.Ended.{Ended}
 use Rattle.turn_object.specs.Ended.{as_ended}
 use Rattle.turn_object.specs.Front.{IsLegalFront}
 use Rattle.turn_object.specs.Pass.{start_of, front, parts_of, mine_of, seen_of, ended_of, IsPassOf}
-use Rattle.story.specs.MakesCalls.{one_history}
+use Rattle.mount_model.specs.MakesCalls.{one_history}
 use Rattle.mount_model.specs.declared.call.Ask.{Ask}
 use Rattle.mount_model.specs.declared.reply.Reply.{Reply}
 use Rattle.mount_model.specs.State.{State}

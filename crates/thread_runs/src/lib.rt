@@ -2,7 +2,7 @@
 //!
 //! The crate owns how the actors' passes go through the phases of one turn: each keeps one pass over the whole run, the passes learn from each other between
 //! phases, and all are joined where the turn is closed. It stands on the courses of actors and the right lines of `run_core`, the turn of `turn_object`, the workers
-//! of `share_workers`, and the histories of `story`.
+//! of `share_workers`, and the histories of `mount_model`.
 #![tactic(auto)]
 
 mod apart;

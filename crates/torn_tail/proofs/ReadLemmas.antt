@@ -3,17 +3,17 @@ use Rattle.std.proofs.Common.{◌≡◌, Bool, nat_le, List, length, Option, Som
 use Rattle.std.proofs.lemmas.Bool.{cases_lt}
 use Rattle.std.proofs.Math.Nat.{add-mul-div_right}
 use Rattle.std.proofs.lemmas.Nat.{div-mul-add}
-use Rattle.flow.specs.declared.names.OpenEntry.{OpenEntry}
+use Rattle.mount_model.specs.declared.names.OpenEntry.{OpenEntry}
 use Rattle.torn_tail.specs.declared.runs.Run.{Run}
-use Rattle.flow.specs.Standing.{ready, rest_of, replied}
+use Rattle.mount_model.specs.Standing.{ready, rest_of, replied}
 use Rattle.mount_model.specs.declared.reply.Reply.{Reply}
 use Rattle.mount_model.specs.Paths.{index_path}
-use Rattle.flow.specs.Replies.{Tries, given, bytes_in, trouble}
+use Rattle.mount_model.specs.FlowReplies.{Tries, given, bytes_in, trouble}
 use Rattle.torn_tail.specs.declared.entries.Went.{Went}
 use Rattle.torn_tail.specs.declared.fates.Fate.{Fate}
 use Rattle.torn_tail.specs.Entries.{looked}
 use Rattle.torn_tail.specs.Writers.{reads, reads_left, reads_on, found, if_checked}
-use Rattle.flow.specs.Entries.{reads_of, next_read}
+use Rattle.mount_model.specs.Entries.{reads_of, next_read}
 
 one_read_less : (left : ℕ) → 0 < left → reads_of left ≡ suc (reads_of (left - next_read left))
 one_read_less left h = elim (cases_lt 4096 left) [

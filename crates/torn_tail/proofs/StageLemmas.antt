@@ -1,12 +1,12 @@
 -- What follows a writer waits until the writer is recovered.
 use Rattle.std.proofs.Common.{◌≡◌, ℕ, refl, ap, ◌∙◌}
 use Rattle.std.specs.Prelude.{Result}
-use Rattle.story.specs.Program.{followed_by}
-use Rattle.flow.specs.Standing.{ready, rest_of, replied}
-use Rattle.flow.specs.declared.stuck.Stuck.{Stuck}
+use Rattle.mount_model.specs.Program.{followed_by}
+use Rattle.mount_model.specs.Standing.{ready, rest_of, replied}
+use Rattle.mount_model.specs.declared.stuck.Stuck.{Stuck}
 use Rattle.mount_model.specs.declared.reply.Reply.{Reply}
-use Rattle.flow.specs.declared.names.OpenEntry.{OpenEntry}
-use Rattle.flow.specs.Replies.{Tries}
+use Rattle.mount_model.specs.declared.names.OpenEntry.{OpenEntry}
+use Rattle.mount_model.specs.FlowReplies.{Tries}
 use Rattle.torn_tail.specs.declared.fates.Fate.{Fate}
 use Rattle.torn_tail.specs.declared.recovering.Recovered.{Recovered}
 use Rattle.torn_tail.specs.declared.steps.Step.{Step}

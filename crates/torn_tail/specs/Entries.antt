@@ -2,7 +2,7 @@
 use Rattle.std.specs.Prelude.{ℕ, zero, suc, ◌+◌, ◌/◌, min, max, nat_le, Bool, true, false, if◌then◌else◌, List, length, drop}
 use Rattle.index_entry.specs.Spelling.{entry_in}
 use Rattle.plfs_types.specs.declared.entries.Entry.{Entry}
-use Rattle.flow.specs.Entries.{is_next}
+use Rattle.mount_model.specs.Entries.{is_next}
 use Rattle.torn_tail.specs.declared.runs.Run.{Run}
 use Rattle.torn_tail.specs.declared.entries.Went.{Went}
 use Rattle.torn_tail.specs.declared.entries.Went.TheVariants.{On, Ends, Breaks}

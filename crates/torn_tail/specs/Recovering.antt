@@ -1,19 +1,19 @@
 -- The calls of a recovery: Find, List of who has the container open; where that is absent, MendHold; else the calls for
 -- each of them, by ascending id.
 use Rattle.std.specs.Prelude.{ℕ, false, if◌then◌else◌, List, [], ◌∷◌, ◌++◌, Result, Ok, Err}
-use Rattle.flow.specs.declared.stuck.Stuck.{Stuck}
-use Rattle.story.specs.Program.{done, ask, followed_by}
+use Rattle.mount_model.specs.declared.stuck.Stuck.{Stuck}
+use Rattle.mount_model.specs.Program.{done, ask, followed_by}
 use Rattle.mount_model.specs.declared.call.Call.TheVariants.{Find, Look, MendHold}
 use Rattle.mount_model.specs.declared.call.Look.TheVariants.{List as ListFolder}
 use Rattle.mount_model.specs.declared.reply.Reply.{Reply}
 use Rattle.mount_model.specs.declared.reply.Reply.TheVariants.{Mended}
 use Rattle.mount_model.specs.Paths.{Name}
 use Rattle.container_layout.specs.Paths.{openhosts}
-use Rattle.flow.specs.declared.names.OpenEntry.{OpenEntry}
-use Rattle.flow.specs.Names.{open_in}
-use Rattle.flow.specs.Order.{entries_by_writer}
-use Rattle.flow.specs.Listed.{known, told_by}
-use Rattle.flow.specs.Replies.{Tries, given, on_ok, room_in, is_no_folder, failure}
+use Rattle.mount_model.specs.declared.names.OpenEntry.{OpenEntry}
+use Rattle.mount_model.specs.Names.{open_in}
+use Rattle.mount_model.specs.Order.{entries_by_writer}
+use Rattle.mount_model.specs.FlowListed.{known, told_by}
+use Rattle.mount_model.specs.FlowReplies.{Tries, given, on_ok, room_in, is_no_folder, failure}
 use Rattle.torn_tail.specs.declared.fates.Fate.{Fate}
 use Rattle.torn_tail.specs.declared.fates.Fate.TheVariants.{Lives, Buried}
 use Rattle.torn_tail.specs.declared.recovering.Recovered.{Recovered}

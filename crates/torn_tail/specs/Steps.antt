@@ -1,8 +1,8 @@
 -- Where the steps for one writer stand in its calls.
 use Rattle.std.specs.Prelude.{ℕ, ◌+◌, ◌^◌}
-use Rattle.story.specs.Program.{done}
-use Rattle.flow.specs.declared.names.OpenEntry.{OpenEntry}
-use Rattle.flow.specs.Replies.{Tries}
+use Rattle.mount_model.specs.Program.{done}
+use Rattle.mount_model.specs.declared.names.OpenEntry.{OpenEntry}
+use Rattle.mount_model.specs.FlowReplies.{Tries}
 use Rattle.torn_tail.specs.declared.fates.Fate.{Fate}
 use Rattle.torn_tail.specs.declared.steps.Step.{Step}
 use Rattle.torn_tail.specs.declared.steps.Step.TheVariants.{Inspect, Index, Log, Entries, Mend, SyncLog, SyncIndex, Meta, Bury}

@@ -2,23 +2,23 @@
 -- of its log and Reads of the whole entries; Mend where the index dropping isn't just its landed entries; where there are
 -- some, SyncDropping of the log and of the index dropping, and MendMeta; then Bury.
 use Rattle.std.specs.Prelude.{ℕ, zero, suc, ◌-◌, ◌*◌, ◌/◌, ◌==◌, nat_le, Bool, true, false, if◌then◌else◌, length, Result, Ok, Err}
-use Rattle.flow.specs.declared.stuck.Stuck.{Stuck}
-use Rattle.story.specs.Program.{done, ask}
+use Rattle.mount_model.specs.declared.stuck.Stuck.{Stuck}
+use Rattle.mount_model.specs.Program.{done, ask}
 use Rattle.mount_model.specs.declared.call.Call.TheVariants.{Look, SyncDropping, Inspect, Mend, MendMeta, Bury}
 use Rattle.mount_model.specs.declared.call.Look.TheVariants.{Length, Read}
 use Rattle.mount_model.specs.declared.reply.Reply.{Reply}
 use Rattle.mount_model.specs.declared.reply.Reply.TheVariants.{Done, Refused}
 use Rattle.mount_model.specs.declared.reply.Refusal.TheVariants.{Alive}
 use Rattle.mount_model.specs.Paths.{index_path, log_path}
-use Rattle.flow.specs.declared.names.OpenEntry.{OpenEntry}
-use Rattle.flow.specs.Replies.{Tries, given, length_in, bytes_in, damage, trouble, failure}
+use Rattle.mount_model.specs.declared.names.OpenEntry.{OpenEntry}
+use Rattle.mount_model.specs.FlowReplies.{Tries, given, length_in, bytes_in, damage, trouble, failure}
 use Rattle.torn_tail.specs.declared.runs.Run.{Run}
 use Rattle.torn_tail.specs.declared.entries.Went.{Went}
 use Rattle.torn_tail.specs.declared.entries.Went.TheVariants.{On, Ends, Breaks}
 use Rattle.torn_tail.specs.declared.fates.Fate.{Fate}
 use Rattle.torn_tail.specs.declared.fates.Fate.TheVariants.{Lives, Buried}
 use Rattle.torn_tail.specs.Entries.{no_entries, looked}
-use Rattle.flow.specs.Entries.{reads_of, next_read}
+use Rattle.mount_model.specs.Entries.{reads_of, next_read}
 
 abbrev pub is_alive : Reply → Bool
 is_alive (Refused Alive) = true

@@ -1,10 +1,10 @@
 //! The entries of an index dropping, which are checked in order.
 ghost use Rattle.std.specs.Prelude.{◌≡◌, ◌*◌, ◌≤◌, length, true};
-ghost use Rattle.flow.specs.Entries.{is_next as next_of};
+ghost use Rattle.mount_model.specs.Entries.{is_next as next_of};
 ghost use Rattle.torn_tail.specs.Entries.{no_entries, longer as longer_of, checked as checked_of, looked};
 
 use crate::runs::{Counted, Run};
-use flow::{first_entry, is_next, past_first};
+use mount_model::{first_entry, is_next, past_first};
 use plfs_types::{Cover, Entry};
 
 /// How far the checking of entries went.

@@ -2,7 +2,7 @@
 //! open.
 //!
 //! The crate owns the machine that does so: which calls it makes for each such writer, in which order, and what comes of
-//! the replies. It stands on `flow`, and needs no mount.
+//! the replies. It stands on `mount_model`, and needs no mount.
 #![tactic(auto)]
 
 mod entries;

@@ -1,12 +1,11 @@
 //! Who has a container open.
 ghost use Rattle.std.specs.Prelude.{◌≡◌, ◌<◌, [], IfOk};
-ghost use Rattle.flow.specs.Listed.{told_by};
+ghost use Rattle.mount_model.specs.FlowListed.{told_by};
 ghost use Rattle.container_layout.specs.Paths.{openhosts as openhosts_name};
 ghost use Rattle.torn_tail.specs.Recovering.{entries_named};
 
 use container_layout::openhosts;
-use flow::{OpenEntryList, Stuck, damage, file_in, names_in, open_in, trouble};
-use mount_model::Reply;
+use mount_model::{OpenEntryList, Reply, Stuck, damage, file_in, names_in, open_in, trouble};
 use plfs_types::{Name, NoMemory};
 use std::alloc::Global;
 

@@ -1,9 +1,9 @@
 //! The machine of a recovery.
 ghost use Rattle.std.specs.Prelude.{◌≡◌, ◌≤◌, ◌<◌, ◌+◌, ◌*◌, ◌^◌, ℕ, length, IfOk, OnOk, IfSome};
 ghost use Rattle.mount_model.specs.Step.{OwedBy};
-ghost use Rattle.story.specs.Program.{followed_by};
-ghost use Rattle.flow.specs.Standing.{ready, next_of, rest_of, replied, Awaits};
-ghost use Rattle.flow.specs.Replies.{on_ok};
+ghost use Rattle.mount_model.specs.Program.{followed_by};
+ghost use Rattle.mount_model.specs.Standing.{ready, next_of, rest_of, replied, Awaits};
+ghost use Rattle.mount_model.specs.FlowReplies.{on_ok};
 ghost use Rattle.torn_tail.specs.Recovering.{recover_program, nothing as nothing_of, noted, recovers, recovers_listed, hold_mended as hold_of};
 ghost use Rattle.torn_tail.specs.Steps.{after_program, after_calls};
 ghost use Rattle.torn_tail.specs.Stages.{recovering, calls_left, recover_standing, recover_left, writer_calls};
@@ -13,10 +13,10 @@ use crate::listing::listed;
 use crate::steps::Step;
 use crate::writers::After;
 use container_layout::openhosts;
-use flow::{
-    Flow, OpenEntry, OpenEntryList, Stuck, entries_by_writer, failure, is_no_folder, room_in,
+use mount_model::{
+    Call, Flow, Look, OpenEntry, OpenEntryList, Reply, Stuck, entries_by_writer, failure,
+    is_no_folder, room_in,
 };
-use mount_model::{Call, Look, Reply};
 use plfs_types::{CountList, IdList, LogicalName, NoMemory, Queue, WriterCount};
 use std::alloc::Global;
 use std::mem;

@@ -1,12 +1,12 @@
 //! The recovery of one writer.
 ghost use Rattle.std.specs.Prelude.{◌≡◌, ◌≤◌, ◌<◌, ◌+◌, ◌*◌, ◌^◌, ℕ, Some, Ok, if◌then◌else◌};
-ghost use Rattle.flow.specs.Standing.{ready, next_of, rest_of, replied};
+ghost use Rattle.mount_model.specs.Standing.{ready, next_of, rest_of, replied};
 ghost use Rattle.mount_model.specs.Paths.{index_path as path_of_index, log_path as path_of_log};
 ghost use Rattle.mount_model.specs.Step.{OwedBy};
 ghost use Rattle.torn_tail.specs.Writers.{found as found_of, keeps as keeps_of, reads_left, if_checked, is_alive as is_alive_of, not_done as not_done_of, if_done as if_done_of, if_synced as if_synced_of};
 ghost use Rattle.torn_tail.specs.declared.fates.Fate.TheVariants.{Buried};
-ghost use Rattle.flow.specs.declared.names.OpenEntry.{OpenEntry as Entered};
-ghost use Rattle.story.specs.Program.{done};
+ghost use Rattle.mount_model.specs.declared.names.OpenEntry.{OpenEntry as Entered};
+ghost use Rattle.mount_model.specs.Program.{done};
 ghost use Rattle.torn_tail.specs.Steps.{step_program, after_program, step_calls, after_calls};
 
 use crate::entries::{Went, look, none_counted};
@@ -14,8 +14,10 @@ use crate::fates::Fate;
 use crate::runs::{Counted, Landed, Reads};
 use crate::steps::Step;
 use container_layout::{Item, print};
-use flow::{OpenEntry, Stuck, bytes_in, damage, failure, length_in, next_read, trouble};
-use mount_model::{Call, Look, Refusal, Reply};
+use mount_model::{
+    Call, Look, OpenEntry, Refusal, Reply, Stuck, bytes_in, damage, failure, length_in, next_read,
+    trouble,
+};
 use plfs_types::Path;
 
 /// What comes after a reply.

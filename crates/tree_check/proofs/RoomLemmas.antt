@@ -21,7 +21,7 @@ use Rattle.store_api.specs.Names.{marks_folder}
 use Rattle.store_api.specs.Names.{marks_name}
 use Rattle.mount_model.specs.declared.row.Making.{Making}
 use Rattle.mount_model.specs.declared.row.Making.TheVariants as making
-use Rattle.mount_shape.specs.Marks.{IsMarksRoom}
+use Rattle.mount_sound.specs.Marks.{IsMarksRoom}
 use Rattle.mount_sound.specs.Items.{HasItem, HasItemOf}
 use Rattle.tree_laws.specs.Checked.{IsCheckedRoom, IsCheckedTree}
 use Rattle.tree_laws.specs.Complaints.{InRoomOf}

@@ -6,8 +6,8 @@ use Rattle.store_api.specs.Acts.{Stored}
 use Rattle.store_laws.specs.Differ.{is_listed}
 use Rattle.store_laws.specs.There.{IsFree}
 use Rattle.mount_model.specs.Paths.{Name}
-use Rattle.mount_shape.specs.Container.{IsContainer}
-use Rattle.mount_shape.specs.Marks.{IsMarksRoom, IsOfMark}
+use Rattle.mount_sound.specs.Container.{IsContainer}
+use Rattle.mount_sound.specs.Marks.{IsMarksRoom, IsOfMark}
 use Rattle.tree_laws.specs.Checked.{IsCheckedRoom, IsCheckedTree}
 use Rattle.tree_laws.specs.Listable.{IsListable}
 use Rattle.shape_check.specs.Places.{HasMarks}

@@ -4,7 +4,7 @@ ghost use Rattle.plfs_types.specs.Counts.{HasRisen};
 ghost use Rattle.store_api.specs.declared.tree.Tree.{Tree};
 ghost use Rattle.store_api.specs.AllKept.{all_kept};
 ghost use Rattle.store_api.specs.Names.{marks_name as marks_room_name};
-ghost use Rattle.mount_shape.specs.Marks.{IsMarksRoom};
+ghost use Rattle.mount_sound.specs.Marks.{IsMarksRoom};
 ghost use Rattle.mount_sound.specs.Sound.{IsSoundTree};
 ghost use Rattle.tree_laws.specs.Checked.{HoldsBytes};
 ghost use Rattle.tree_laws.specs.Listable.{IsListable};

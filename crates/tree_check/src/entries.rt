@@ -13,7 +13,7 @@ ghost use Rattle.tree_check.specs.Whole.{HasLength};
 ghost use Rattle.tree_check.specs.Entries.{AreEntriesIn, AreInOrder, AreOrdered, ends_within, EndsWithin, IsMisfit};
 
 use crate::whole::piece;
-use flow::first_entry;
+use mount_model::first_entry;
 use plfs_types::{
     ENTRIES_A_READ, ENTRY_SIZE, Entry, EntryList, MAX_LOG, MAX_STAMP, Name, NoMemory, Path, fits,
 };

@@ -11,8 +11,8 @@ use Rattle.store_api.specs.declared.tree.Tree.{Tree}
 use Rattle.store_api.specs.Room.{has_folder}
 use Rattle.mount_model.specs.Paths.{Name, access_path, installed_of}
 use Rattle.store_api.specs.Names.{marks_name}
-use Rattle.mount_shape.specs.Container.{IsContainer, IsOfId, MayHold}
-use Rattle.mount_shape.specs.Marks.{IsMarksRoom, IsOfMark}
+use Rattle.mount_sound.specs.Container.{IsContainer, IsOfId, MayHold}
+use Rattle.mount_sound.specs.Marks.{IsMarksRoom, IsOfMark}
 use Rattle.mount_sound.specs.Items.{HasItem}
 use Rattle.mount_sound.specs.Dropping.{bytes_of}
 use Rattle.store_laws.specs.Files.{file_at, kept_at}

@@ -25,8 +25,8 @@ use Rattle.store_api.specs.Names.{marks_folder}
 use Rattle.store_api.specs.Names.{marks_name}
 use Rattle.mount_model.specs.declared.row.Making.{Making}
 use Rattle.mount_model.specs.declared.row.Making.TheVariants as making
-use Rattle.mount_shape.specs.Container.{IsContainer, IsItemFile, MayHold, IsOfId}
-use Rattle.mount_shape.specs.Marks.{IsMarkFile, IsMarksRoom, IsOfMark}
+use Rattle.mount_sound.specs.Container.{IsContainer, IsItemFile, MayHold, IsOfId}
+use Rattle.mount_sound.specs.Marks.{IsMarkFile, IsMarksRoom, IsOfMark}
 use Rattle.mount_sound.specs.Entries.{AreEntriesOf, logged, last_stamp, greatest_end}
 use Rattle.mount_sound.specs.Dropping.{bytes_of, log_bytes, IsKeptWhole, IsToldOf, AreBeside}
 use Rattle.mount_sound.specs.Flats.{IsRightFor}

@@ -10,8 +10,8 @@ use Rattle.store_api.specs.declared.tree.Tree.{Tree}
 use Rattle.store_laws.specs.Files.{file_at, kept_at}
 use Rattle.mount_model.specs.Paths.{open_path, index_path, installed_item, installed_of}
 use Rattle.mount_model.specs.declared.row.Making.{Making}
-use Rattle.mount_shape.specs.Marks.{IsOfMark}
-use Rattle.mount_shape.specs.Shape.{IsShapedTree}
+use Rattle.mount_sound.specs.Marks.{IsOfMark}
+use Rattle.mount_sound.specs.Shape.{IsShapedTree}
 use Rattle.mount_sound.specs.Entries.{AreEntriesOf, logged}
 use Rattle.mount_sound.specs.Dropping.{bytes_of, IsKeptWhole, IsToldOf, AreBeside}
 use Rattle.mount_sound.specs.Flats.{IsRightFor}

@@ -14,8 +14,8 @@ use Rattle.mount_model.specs.Paths.{Name, open_path, index_path, installed_item,
 use Rattle.store_api.specs.Names.{marks_folder}
 use Rattle.store_api.specs.Names.{marks_name}
 use Rattle.mount_model.specs.declared.row.Making.{Making}
-use Rattle.mount_shape.specs.Container.{IsContainerFolder, MayHold, IsOfId}
-use Rattle.mount_shape.specs.Marks.{IsMarkFile, IsOfMark}
+use Rattle.mount_sound.specs.Container.{IsContainerFolder, MayHold, IsOfId}
+use Rattle.mount_sound.specs.Marks.{IsMarkFile, IsOfMark}
 use Rattle.mount_sound.specs.Entries.{AreEntriesOf, logged}
 use Rattle.mount_sound.specs.Dropping.{IsKeptWhole, IsToldOf, AreBeside}
 use Rattle.mount_sound.specs.Flats.{IsRightFor}

@@ -7,7 +7,7 @@ use Rattle.plfs_types.specs.declared.entries.Entry.{Entry}
 use Rattle.index_entry.specs.Entries.{AreEntriesOf, logged}
 use Rattle.index_entry.specs.Spelling.{entry_in, spelling, spelling_all}
 use Rattle.index_entry.proofs.Facts.{drop-spelling_all, entries_format, length-spelling, length-spelling_all}
-use Rattle.flow.specs.Entries.{is_next}
+use Rattle.mount_model.specs.Entries.{is_next}
 use Rattle.torn_tail.specs.Entries.{checked, longer, looked}
 use Rattle.torn_tail.specs.Words.{Run, Went, all_there, ends, breaks}
 use Rattle.reader_laws.proofs.Facts.{follows_fits, next_true, reads_entries}

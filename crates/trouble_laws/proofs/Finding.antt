@@ -6,8 +6,8 @@ use Rattle.mount_model.specs.declared.reply.Reply.TheVariants.{Damaged}
 use Rattle.mount_model.specs.Paths.{Name}
 use Rattle.mount_model.specs.State.{State}
 use Rattle.mount_undamaged.specs.Damage.{ShowsNoDamage}
-use Rattle.story.specs.Program.{ask}
-use Rattle.flow.specs.Replies.{Tries, failure, given, room_in}
+use Rattle.mount_model.specs.Program.{ask}
+use Rattle.mount_model.specs.FlowReplies.{Tries, failure, given, room_in}
 use Rattle.trouble_laws.specs.Undamaged.{IsNoDamage, IsUndamaged}
 use Rattle.trouble_laws.proofs.Walking.{Ends, Stays, ends_call, ends_given}
 

@@ -11,21 +11,21 @@ use Rattle.mount_model.specs.History.{Event}
 use Rattle.mount_model.specs.State.{State}
 use Rattle.mount_sound.specs.Owed.{IsLawful}
 use Rattle.mount_undamaged.specs.Damage.{ShowsNoDamage}
-use Rattle.story.specs.Program.{done, followed_by}
-use Rattle.flow.specs.declared.stuck.Stuck.{Stuck}
-use Rattle.flow.specs.declared.stuck.Stuck.TheVariants as stuck
-use Rattle.flow.specs.Running.{Runs}
-use Rattle.flow.proofs.Facts.{runs_in_two}
-use Rattle.flow.specs.Replies.{Tries, failure, given, on_ok, room_in, on_ok as then_on_ok}
+use Rattle.mount_model.specs.Program.{done, followed_by}
+use Rattle.mount_model.specs.declared.stuck.Stuck.{Stuck}
+use Rattle.mount_model.specs.declared.stuck.Stuck.TheVariants as stuck
+use Rattle.mount_model.specs.Running.{Runs}
+use Rattle.mount_model.proofs.Flows.Facts.{runs_in_two}
+use Rattle.mount_model.specs.FlowReplies.{Tries, failure, given, on_ok, room_in, on_ok as then_on_ok}
 use Rattle.index_reader.specs.declared.listing.Dropping.{Dropping as Listed}
 use Rattle.index_reader.specs.declared.listing.Listing.{Listing}
 use Rattle.index_reader.specs.declared.sharing.Share.{Share}
 use Rattle.index_reader.specs.Opening.{no_flat, open_at_program, scan_program}
 use Rattle.index_reader.specs.Sharing.{share_program}
 use Rattle.index_reader.specs.Truncs.{trunc_program}
-use Rattle.gathering.specs.Moments.{Moment, IsSoundAt, Grows, moment_after}
-use Rattle.gathering.specs.Seen.{calls_of}
-use Rattle.gathering.proofs.Facts.{grows_after, legal_first, legal_rest, moment-append, sound_after}
+use Rattle.reader_laws.specs.Moments.{Moment, IsSoundAt, Grows, moment_after}
+use Rattle.reader_laws.specs.Seen.{calls_of}
+use Rattle.reader_laws.proofs.Gathered.Facts.{grows_after, legal_first, legal_rest, moment-append, sound_after}
 use Rattle.gather_flow.specs.declared.all_read.AllRead.{AllRead}
 use Rattle.gather_flow.specs.Dealing.{dealt_to}
 use Rattle.gather_flow.specs.Gathering.{if_truncs_listed, reads_truncs, shares_from}

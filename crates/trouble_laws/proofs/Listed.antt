@@ -30,21 +30,21 @@ use Rattle.mount_model.specs.Recovering.{IsHostAndWriter}
 use Rattle.mount_model.specs.State.{State, last_id}
 use Rattle.mount_model.specs.Step.{IsStep}
 use Rattle.mount_model.proofs.Facts.{is_container, match_cases}
-use Rattle.mount_shape.specs.Container.{IsContainer, IsOfId}
-use Rattle.mount_shape.specs.Shape.{IsDrawnBy}
-use Rattle.mount_shape.proofs.Facts.{container_at, shape_of}
+use Rattle.mount_sound.specs.Container.{IsContainer, IsOfId}
+use Rattle.mount_sound.specs.Shape.{IsDrawnBy}
+use Rattle.mount_sound.proofs.Shapes.Facts.{container_at, shape_of}
 use Rattle.mount_sound.specs.Items.{HasItem}
 use Rattle.mount_sound.specs.Ledger.{Ledger}
 use Rattle.mount_sound.specs.Sound.{IsSoundFor}
-use Rattle.flow.specs.declared.stuck.Stuck.{Stuck}
-use Rattle.flow.specs.Running.{unbroken}
-use Rattle.flow.specs.declared.names.Metadata.{Metadata}
-use Rattle.flow.specs.declared.names.OpenEntry.{OpenEntry}
-use Rattle.flow.specs.Listed.{file_in, known, or_trouble, told_by}
-use Rattle.flow.specs.Names.{meta_in, open_in, trunc_in}
-use Rattle.flow.specs.Replies.{damage, is_no_folder}
-use Rattle.flow.proofs.Facts.{meta_in-is, open_in-is, trunc_in-is}
-use Rattle.gathering.proofs.Facts.{named_file}
+use Rattle.mount_model.specs.declared.stuck.Stuck.{Stuck}
+use Rattle.mount_model.specs.Running.{unbroken}
+use Rattle.mount_model.specs.declared.names.Metadata.{Metadata}
+use Rattle.mount_model.specs.declared.names.OpenEntry.{OpenEntry}
+use Rattle.mount_model.specs.FlowListed.{file_in, known, or_trouble, told_by}
+use Rattle.mount_model.specs.Names.{meta_in, open_in, trunc_in}
+use Rattle.mount_model.specs.FlowReplies.{damage, is_no_folder}
+use Rattle.mount_model.proofs.Flows.Facts.{meta_in-is, open_in-is, trunc_in-is}
+use Rattle.reader_laws.proofs.Gathered.Facts.{named_file}
 use Rattle.trouble_laws.specs.Undamaged.{IsUndamaged}
 
 -- ---- a reply that tells nothing

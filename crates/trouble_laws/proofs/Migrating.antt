@@ -21,14 +21,14 @@ use Rattle.mount_sound.specs.Ledger.{Ledger}
 use Rattle.mount_sound.specs.Owed.{May}
 use Rattle.mount_sound.specs.Sound.{IsSoundFor}
 use Rattle.mount_undamaged.specs.Damage.{ShowsNoDamage}
-use Rattle.flow.specs.declared.stuck.Stuck.{Stuck}
-use Rattle.flow.specs.Running.{Runs, unbroken}
-use Rattle.story.specs.Program.{done}
-use Rattle.flow.specs.declared.names.Metadata.{Metadata}
-use Rattle.flow.specs.Listed.{file_in, or_trouble, told_by}
-use Rattle.flow.specs.Names.{meta_in}
-use Rattle.flow.specs.Order.{metadata_by_writer}
-use Rattle.flow.specs.Replies.{Tries, bytes_in, damage, failure, given, on_ok, trouble, names_in}
+use Rattle.mount_model.specs.declared.stuck.Stuck.{Stuck}
+use Rattle.mount_model.specs.Running.{Runs, unbroken}
+use Rattle.mount_model.specs.Program.{done}
+use Rattle.mount_model.specs.declared.names.Metadata.{Metadata}
+use Rattle.mount_model.specs.FlowListed.{file_in, or_trouble, told_by}
+use Rattle.mount_model.specs.Names.{meta_in}
+use Rattle.mount_model.specs.Order.{metadata_by_writer}
+use Rattle.mount_model.specs.FlowReplies.{Tries, bytes_in, damage, failure, given, on_ok, trouble, names_in}
 use Rattle.index_reader.specs.declared.listing.Dropping.{Dropping as Listed}
 use Rattle.index_reader.specs.declared.listing.Listing.{Listing}
 use Rattle.index_reader.specs.Opening.{no_flat, scans}
@@ -43,7 +43,7 @@ use Rattle.migrate_core.specs.Longest.{packing}
 use Rattle.migrate_core.specs.Migrating.{lists_metadata, migrate_at_program, migrate_program, migrates, migrates_listed, migrates_shown, scans_then}
 use Rattle.migrate_core.specs.Words.{Fate, Packed, Tail, is_packed, passed_over}
 use Rattle.migrate_core.specs.Writers.{counts_of, flat_in, if_done, installs, or_damage, puts, reads, reads_left, sized, starts, syncs, writer_program}
-use Rattle.flow.specs.Entries.{next_read, reads_of}
+use Rattle.mount_model.specs.Entries.{next_read, reads_of}
 use Rattle.index_reader.specs.Replies.{number_in}
 use Rattle.migrate_laws.proofs.Facts.{IsWhole, IsWholeIn, all_ordered, all_push, whole_stays}
 use Rattle.reader_laws.proofs.Facts.{HasShown, shown_at, shown_fails, shown_stays}

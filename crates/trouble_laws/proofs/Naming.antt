@@ -11,13 +11,13 @@ use Rattle.mount_model.specs.Paths.{Name, metadata, truncs}
 use Rattle.container_layout.specs.Paths.{openhosts}
 use Rattle.mount_model.specs.State.{State}
 use Rattle.mount_undamaged.specs.Damage.{ShowsNoDamage}
-use Rattle.flow.specs.declared.stuck.Stuck.{Stuck}
-use Rattle.story.specs.Program.{done}
-use Rattle.flow.specs.declared.names.Metadata.{Metadata}
-use Rattle.flow.specs.declared.names.OpenEntry.{OpenEntry}
-use Rattle.flow.specs.Listed.{told_by}
-use Rattle.flow.specs.Names.{meta_in, open_in, trunc_in}
-use Rattle.flow.specs.Replies.{Tries, failure, given, on_ok}
+use Rattle.mount_model.specs.declared.stuck.Stuck.{Stuck}
+use Rattle.mount_model.specs.Program.{done}
+use Rattle.mount_model.specs.declared.names.Metadata.{Metadata}
+use Rattle.mount_model.specs.declared.names.OpenEntry.{OpenEntry}
+use Rattle.mount_model.specs.FlowListed.{told_by}
+use Rattle.mount_model.specs.Names.{meta_in, open_in, trunc_in}
+use Rattle.mount_model.specs.FlowReplies.{Tries, failure, given, on_ok}
 use Rattle.attr_flow.specs.Asking.{attr_program, attributes, if_open, lists_metadata as asks_metadata, lists_open, lists_truncs as asks_truncs}
 use Rattle.attr_flow.specs.Listings.{has_entry, is_open, metadata_named, truncs_named}
 use Rattle.trunc_rename.specs.Holding.{holder_in, holds, lets_go, or_lets_go, released}

@@ -32,16 +32,16 @@ use Rattle.mount_sound.specs.Sound.{IsSoundFor}
 use Rattle.mount_sound.proofs.Facts.{gone_anywhere, gone_later, in_later, index_now, is_index, later, not_live_later, only_dead, some_room}
 use Rattle.mount_undamaged.specs.Damage.{ShowsNoDamage}
 use Rattle.mount_undamaged.proofs.Facts.{step_shows}
-use Rattle.flow.specs.Running.{unbroken}
-use Rattle.story.specs.Program.{ask, done}
-use Rattle.flow.specs.declared.names.OpenEntry.{OpenEntry}
-use Rattle.flow.specs.Replies.{Tries, bytes_in, failure, given, length_in, trouble}
+use Rattle.mount_model.specs.Running.{unbroken}
+use Rattle.mount_model.specs.Program.{ask, done}
+use Rattle.mount_model.specs.declared.names.OpenEntry.{OpenEntry}
+use Rattle.mount_model.specs.FlowReplies.{Tries, bytes_in, failure, given, length_in, trouble}
 use Rattle.torn_tail.specs.Entries.{looked, no_entries}
 use Rattle.torn_tail.specs.Writers.{buries, found, if_checked, if_done, if_synced, keeps, measures_index, measures_log, mends, mends_meta, not_done, reads, reads_left, syncs_index, syncs_log, writer_program}
-use Rattle.flow.specs.Entries.{next_read, reads_of}
+use Rattle.mount_model.specs.Entries.{next_read, reads_of}
 use Rattle.torn_tail.specs.Words.{Run, Went}
-use Rattle.gathering.specs.Moments.{Dropping, Moment, IsSoundAt, file_in_room, file_told, file_then}
-use Rattle.gathering.proofs.Facts.{length_told, read_ends}
+use Rattle.reader_laws.specs.Moments.{Dropping, Moment, IsSoundAt, file_in_room, file_told, file_then}
+use Rattle.reader_laws.proofs.Gathered.Facts.{length_told, read_ends}
 use Rattle.reader_laws.proofs.Facts.{HasEntries, answered, has_entries}
 use Rattle.trouble_laws.specs.Undamaged.{IsNoDamage, IsUndamaged}
 use Rattle.trouble_laws.proofs.Checks.{GoesOn, IsFrontOf, front_cut, read_so}

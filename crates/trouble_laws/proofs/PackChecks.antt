@@ -9,10 +9,10 @@ use Rattle.plfs_types.specs.declared.entries.Entry.{Entry}
 use Rattle.index_entry.specs.Entries.{AreEntriesOf, logged}
 use Rattle.index_entry.specs.Spelling.{entry_in, spelling, spelling_all}
 use Rattle.index_entry.proofs.Facts.{drop-spelling_all, entries_format, length-spelling, take-spelling_all}
-use Rattle.flow.specs.Entries.{is_next}
+use Rattle.mount_model.specs.Entries.{is_next}
 use Rattle.migrate_core.specs.Entries.{checked, longer}
 use Rattle.migrate_core.specs.Words.{Tail}
-use Rattle.flow.specs.Entries.{next_read}
+use Rattle.mount_model.specs.Entries.{next_read}
 use Rattle.reader_laws.proofs.Facts.{follows_fits, next_true}
 
 -- the next entries behind those that the cover tells of are these, by its writer's rules

@@ -17,14 +17,14 @@ use Rattle.mount_sound.specs.Ledger.{Ledger}
 use Rattle.mount_sound.specs.Owed.{May}
 use Rattle.mount_sound.specs.Sound.{IsSoundFor}
 use Rattle.mount_undamaged.specs.Damage.{ShowsNoDamage}
-use Rattle.flow.specs.declared.stuck.Stuck.{Stuck}
-use Rattle.flow.specs.Running.{unbroken}
-use Rattle.story.specs.Program.{done}
-use Rattle.flow.specs.declared.names.OpenEntry.{OpenEntry}
-use Rattle.flow.specs.Listed.{file_in, or_trouble, told_by}
-use Rattle.flow.specs.Names.{open_in}
-use Rattle.flow.specs.Order.{entries_by_writer, put_by}
-use Rattle.flow.specs.Replies.{Tries, damage, is_no_folder, on_ok}
+use Rattle.mount_model.specs.declared.stuck.Stuck.{Stuck}
+use Rattle.mount_model.specs.Running.{unbroken}
+use Rattle.mount_model.specs.Program.{done}
+use Rattle.mount_model.specs.declared.names.OpenEntry.{OpenEntry}
+use Rattle.mount_model.specs.FlowListed.{file_in, or_trouble, told_by}
+use Rattle.mount_model.specs.Names.{open_in}
+use Rattle.mount_model.specs.Order.{entries_by_writer, put_by}
+use Rattle.mount_model.specs.FlowReplies.{Tries, damage, is_no_folder, on_ok}
 use Rattle.torn_tail.specs.declared.recovering.Recovered.{Recovered}
 use Rattle.torn_tail.specs.Recovering.{entries_named, hold_mended, lists_open, mends_hold, noted, nothing, recover_program, recovers, recovers_listed}
 use Rattle.torn_tail.specs.Writers.{writer_program}

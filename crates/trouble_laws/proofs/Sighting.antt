@@ -22,18 +22,18 @@ use Rattle.mount_model.specs.Paths.{index_path}
 use Rattle.mount_model.specs.State.{State, last_id}
 use Rattle.mount_model.specs.Step.{IsStep}
 use Rattle.mount_model.proofs.Facts.{is_container, match_cases}
-use Rattle.mount_shape.specs.Container.{IsContainer}
-use Rattle.mount_shape.specs.Shape.{IsDrawnBy}
-use Rattle.mount_shape.proofs.Facts.{container_at, shape_of}
+use Rattle.mount_sound.specs.Container.{IsContainer}
+use Rattle.mount_sound.specs.Shape.{IsDrawnBy}
+use Rattle.mount_sound.proofs.Shapes.Facts.{container_at, shape_of}
 use Rattle.mount_sound.specs.Ledger.{Ledger}
 use Rattle.mount_sound.specs.Sound.{IsSoundFor}
 use Rattle.mount_sound.proofs.Facts.{some_room}
-use Rattle.flow.specs.Running.{unbroken}
-use Rattle.flow.specs.declared.names.Metadata.{Metadata}
-use Rattle.flow.specs.Replies.{bytes_in, trouble, names_in}
+use Rattle.mount_model.specs.Running.{unbroken}
+use Rattle.mount_model.specs.declared.names.Metadata.{Metadata}
+use Rattle.mount_model.specs.FlowReplies.{bytes_in, trouble, names_in}
 use Rattle.index_reader.specs.Replies.{number_in}
-use Rattle.gathering.specs.Moments.{Moment, file_in_room, file_told, file_then}
-use Rattle.gathering.proofs.Facts.{read_ends}
+use Rattle.reader_laws.specs.Moments.{Moment, file_in_room, file_told, file_then}
+use Rattle.reader_laws.proofs.Gathered.Facts.{read_ends}
 use Rattle.reader_laws.proofs.Facts.{answered}
 use Rattle.trouble_laws.specs.Undamaged.{IsNoDamage}
 use Rattle.trouble_laws.proofs.Listed.{IsPlain}

@@ -17,7 +17,7 @@ use Rattle.mount_sound.specs.Ledger.{AreWritesOf, Ledger, Written, entries_in}
 use Rattle.mount_sound.specs.Sound.{IsSoundFor}
 use Rattle.mount_sound.specs.There.{landed_entries}
 use Rattle.mount_sound.proofs.Facts.{in_order_take, is_index, logged_take, one_tree, writer_told}
-use Rattle.flow.specs.declared.names.Metadata.{Metadata}
+use Rattle.mount_model.specs.declared.names.Metadata.{Metadata}
 use Rattle.migrate_core.specs.Entries.{no_entries}
 use Rattle.migrate_laws.proofs.Facts.{IsWhole, IsWholeIn, whole_now, whole_stays}
 use Rattle.trouble_laws.proofs.PackChecks.{ComeNext}

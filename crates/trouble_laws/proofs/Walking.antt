@@ -14,11 +14,11 @@ use Rattle.mount_sound.specs.Sound.{IsSoundFor}
 use Rattle.mount_sound.proofs.Facts.{later}
 use Rattle.mount_undamaged.specs.Damage.{ShowsNoDamage}
 use Rattle.mount_undamaged.proofs.Facts.{step_shows}
-use Rattle.flow.specs.declared.stuck.Stuck.{Stuck}
-use Rattle.flow.specs.Running.{Runs, unbroken}
-use Rattle.flow.proofs.Facts.{runs_in_two, runs_next}
-use Rattle.flow.specs.Replies.{given, on_ok}
-use Rattle.story.specs.Program.{Program, ask, done, followed_by}
+use Rattle.mount_model.specs.declared.stuck.Stuck.{Stuck}
+use Rattle.mount_model.specs.Running.{Runs, unbroken}
+use Rattle.mount_model.proofs.Flows.Facts.{runs_in_two, runs_next}
+use Rattle.mount_model.specs.FlowReplies.{given, on_ok}
+use Rattle.mount_model.specs.Program.{Program, ask, done, followed_by}
 use Rattle.trouble_laws.specs.Undamaged.{IsNoDamage, IsUndamaged}
 
 -- what holds of a sound state holds after each step, whoever makes it

@@ -7,8 +7,8 @@ use Rattle.mount_model.specs.State.{State}
 use Rattle.mount_sound.specs.Ledger.{Ledger}
 use Rattle.mount_sound.specs.Owed.{IsLawful}
 use Rattle.mount_sound.specs.Sound.{IsSoundFor}
-use Rattle.story.specs.Program.{Program}
-use Rattle.flow.specs.Running.{Runs}
+use Rattle.mount_model.specs.Program.{Program}
+use Rattle.mount_model.specs.Running.{Runs}
 
 -- whoever runs the program in such a history, whatever others call meanwhile, ends with such a result
 abbrev pub AlwaysEnds : {R : Type 0} → (R → Type 0) → Program Call Reply R → Type 0

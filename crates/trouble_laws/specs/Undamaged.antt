@@ -1,7 +1,7 @@
 -- Results that tell of no damage.
 use Rattle.std.specs.Prelude.{Result, Ok, Err}
-use Rattle.flow.specs.declared.stuck.Stuck.{Stuck}
-use Rattle.flow.specs.declared.stuck.Stuck.TheVariants.{Damaged}
+use Rattle.mount_model.specs.declared.stuck.Stuck.{Stuck}
+use Rattle.mount_model.specs.declared.stuck.Stuck.TheVariants.{Damaged}
 
 -- it is a fault or a refusal
 abbrev pub IsNoDamage : Stuck → Type 0

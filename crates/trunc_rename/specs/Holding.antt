@@ -1,11 +1,11 @@
 -- A container is held, and let go whatever came between.
 use Rattle.std.specs.Prelude.{ℕ, Option, Some, None, Result, Ok, Err}
-use Rattle.flow.specs.declared.stuck.Stuck.{Stuck}
-use Rattle.story.specs.Program.{done, ask}
+use Rattle.mount_model.specs.declared.stuck.Stuck.{Stuck}
+use Rattle.mount_model.specs.Program.{done, ask}
 use Rattle.mount_model.specs.declared.call.Call.TheVariants.{Hold, Release}
 use Rattle.mount_model.specs.declared.reply.Reply.{Reply}
 use Rattle.mount_model.specs.declared.reply.Reply.TheVariants.{Holding, Done}
-use Rattle.flow.specs.Replies.{Tries, given, failure}
+use Rattle.mount_model.specs.FlowReplies.{Tries, given, failure}
 
 abbrev pub holder_in : Reply → Option ℕ
 holder_in (Holding holder) = Some holder

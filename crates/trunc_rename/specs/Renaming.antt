@@ -1,12 +1,12 @@
 -- The calls of a rename: Find, Hold, Move, Release.
 use Rattle.std.specs.Prelude.{ℕ, Result, Ok, Err}
-use Rattle.flow.specs.declared.stuck.Stuck.{Stuck}
-use Rattle.story.specs.Program.{ask}
+use Rattle.mount_model.specs.declared.stuck.Stuck.{Stuck}
+use Rattle.mount_model.specs.Program.{ask}
 use Rattle.mount_model.specs.declared.call.Call.TheVariants.{Find, Move}
 use Rattle.mount_model.specs.declared.reply.Reply.{Reply}
 use Rattle.mount_model.specs.declared.reply.Reply.TheVariants.{Done}
 use Rattle.mount_model.specs.Paths.{Name}
-use Rattle.flow.specs.Replies.{Tries, given, room_in, failure}
+use Rattle.mount_model.specs.FlowReplies.{Tries, given, room_in, failure}
 use Rattle.trunc_rename.specs.Holding.{holds, lets_go}
 
 -- the container has its new name

@@ -1,11 +1,11 @@
 -- The greatest stamp that the names of a listing tell.
 use Rattle.std.specs.Prelude.{ℕ, max, List, [], ◌∷◌, Result, Ok}
 use Rattle.plfs_types.specs.declared.entries.Trunc.{Trunc}
-use Rattle.flow.specs.declared.stuck.Stuck.{Stuck}
+use Rattle.mount_model.specs.declared.stuck.Stuck.{Stuck}
 use Rattle.mount_model.specs.Paths.{Name, metadata, truncs}
-use Rattle.flow.specs.declared.names.Metadata.{Metadata}
-use Rattle.flow.specs.Names.{meta_in, trunc_in}
-use Rattle.flow.specs.Listed.{known}
+use Rattle.mount_model.specs.declared.names.Metadata.{Metadata}
+use Rattle.mount_model.specs.Names.{meta_in, trunc_in}
+use Rattle.mount_model.specs.FlowListed.{known}
 
 -- the greatest of this stamp and those of the metadata droppings of these names
 abbrev pub metadata_top : List Name → ℕ → Result ℕ Stuck

@@ -1,11 +1,11 @@
 -- Where the stages of a truncate stand in its program.
 use Rattle.std.specs.Prelude.{ℕ, Result}
-use Rattle.flow.specs.declared.stuck.Stuck.{Stuck}
-use Rattle.story.specs.Program.{done}
-use Rattle.flow.specs.Standing.{Standing, ready}
+use Rattle.mount_model.specs.declared.stuck.Stuck.{Stuck}
+use Rattle.mount_model.specs.Program.{done}
+use Rattle.mount_model.specs.Standing.{Standing, ready}
 use Rattle.mount_model.specs.declared.call.Call.{Call}
 use Rattle.mount_model.specs.declared.reply.Reply.{Reply}
-use Rattle.flow.specs.Replies.{Tries}
+use Rattle.mount_model.specs.FlowReplies.{Tries}
 use Rattle.trunc_rename.specs.declared.truncating.TruncFlow.{TruncFlow}
 use Rattle.trunc_rename.specs.declared.truncating.Stage.{Stage}
 use Rattle.trunc_rename.specs.declared.truncating.Stage.TheVariants.{Finding, Holding, ListingMetadata, ListingTruncs, Marking, Releasing, Ended}

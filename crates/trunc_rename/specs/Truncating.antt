@@ -1,14 +1,14 @@
 -- The calls of a truncate: Find, Hold, List of the metadata, List of the truncates, Mark, Release.
 use Rattle.std.specs.Prelude.{ℕ, Result, Ok, Err}
-use Rattle.flow.specs.declared.stuck.Stuck.{Stuck}
-use Rattle.story.specs.Program.{ask}
+use Rattle.mount_model.specs.declared.stuck.Stuck.{Stuck}
+use Rattle.mount_model.specs.Program.{ask}
 use Rattle.mount_model.specs.declared.call.Call.TheVariants.{Find, Look, Mark}
 use Rattle.mount_model.specs.declared.call.Look.TheVariants.{List as ListFolder}
 use Rattle.mount_model.specs.declared.reply.Reply.{Reply}
 use Rattle.mount_model.specs.declared.reply.Reply.TheVariants.{Marked}
 use Rattle.mount_model.specs.Paths.{Name, metadata, truncs}
-use Rattle.flow.specs.Replies.{Tries, given, room_in, failure}
-use Rattle.flow.specs.Listed.{told_by}
+use Rattle.mount_model.specs.FlowReplies.{Tries, given, room_in, failure}
+use Rattle.mount_model.specs.FlowListed.{told_by}
 use Rattle.trunc_rename.specs.Holding.{holds, lets_go, or_lets_go}
 use Rattle.trunc_rename.specs.Tops.{metadata_top, truncs_top}
 

@@ -2,8 +2,7 @@
 ghost use Rattle.std.specs.Prelude.{◌≡◌};
 ghost use Rattle.trunc_rename.specs.Holding.{holder_in as holder_of, released as released_of};
 
-use flow::{Stuck, failure};
-use mount_model::Reply;
+use mount_model::{Reply, Stuck, failure};
 
 /// The number of the hold.
 pub(crate) fn holder_in(reply: &Reply) -> Option<u64>

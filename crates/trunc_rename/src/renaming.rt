@@ -1,12 +1,11 @@
 //! A rename.
 ghost use Rattle.std.specs.Prelude.{◌≡◌, ◌<◌};
-ghost use Rattle.flow.specs.Standing.{ready, next_of, rest_of, replied, Awaits};
+ghost use Rattle.mount_model.specs.Standing.{ready, next_of, rest_of, replied, Awaits};
 ghost use Rattle.trunc_rename.specs.Renaming.{rename_program, moved as moved_of};
 ghost use Rattle.trunc_rename.specs.RenameStages.{renaming, renames_left, rename_standing, rename_left};
 
 use crate::holding::{holder_in, released};
-use flow::{Flow, Stuck, failure, room_in};
-use mount_model::{Call, Reply};
+use mount_model::{Call, Flow, Reply, Stuck, failure, room_in};
 use plfs_types::{LogicalName, NoMemory};
 
 /// Gives a file another name: holds its container, moves it, and lets it go.

@@ -1,12 +1,11 @@
 //! The greatest stamp that the names of a listing tell.
 ghost use Rattle.std.specs.Prelude.{◌≡◌};
 ghost use Rattle.trunc_rename.specs.Tops.{metadata_top as top_of_metadata, truncs_top as top_of_truncs};
-ghost use Rattle.flow.specs.Listed.{told_by};
+ghost use Rattle.mount_model.specs.FlowListed.{told_by};
 ghost use Rattle.mount_model.specs.Paths as paths;
 
 use container_layout::{metadata, truncs};
-use flow::{Stuck, damage, file_in, meta_in, names_in, trouble, trunc_in};
-use mount_model::Reply;
+use mount_model::{Reply, Stuck, damage, file_in, meta_in, names_in, trouble, trunc_in};
 use plfs_types::Name;
 
 /// The greatest of this stamp and those of the metadata droppings of these names.

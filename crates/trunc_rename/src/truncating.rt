@@ -1,14 +1,13 @@
 //! A truncate.
 ghost use Rattle.std.specs.Prelude.{◌≡◌, ◌<◌};
-ghost use Rattle.flow.specs.Standing.{ready, next_of, rest_of, replied, Awaits};
+ghost use Rattle.mount_model.specs.Standing.{ready, next_of, rest_of, replied, Awaits};
 ghost use Rattle.trunc_rename.specs.Truncating.{truncate_program, marked as marked_of};
 ghost use Rattle.trunc_rename.specs.TruncateStages.{truncating, calls_left, truncate_standing, truncate_left};
 
 use crate::holding::{holder_in, released};
 use crate::tops::{top_of_metadata, top_of_truncs};
 use container_layout::{metadata, truncs};
-use flow::{Flow, Stuck, failure, room_in};
-use mount_model::{Call, Look, Reply};
+use mount_model::{Call, Flow, Look, Reply, Stuck, failure, room_in};
 use plfs_types::{LogicalName, NoMemory};
 
 /// Truncates a file: holds its container, lists the metadata and then the truncates, puts a truncate whose stamp is above

@@ -1,8 +1,8 @@
 //! The law of written turns that are one.
 ghost use Rattle.std.specs.Prelude.{◌≡◌, Bool, List};
 ghost use Rattle.turn_object.specs.declared.history.Entry.{Entry};
-ghost use Rattle.story.specs.Performers.{Performer};
-ghost use Rattle.story.specs.InTurns.{WrittenOrder, InTurns};
+ghost use Rattle.mount_model.specs.Performers.{Performer};
+ghost use Rattle.mount_model.specs.InTurns.{WrittenOrder, InTurns};
 ghost use Rattle.turn_laws.specs.GoAlike.{GoAlike};
 
 use turn_object::Object;

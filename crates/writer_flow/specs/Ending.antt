@@ -1,7 +1,7 @@
 -- What a machine ends with.
 use Rattle.std.specs.Prelude.{ℕ, Result, Err, Some, None}
-use Rattle.flow.specs.declared.stuck.Stuck.{Stuck}
-use Rattle.flow.specs.declared.stuck.Stuck.TheVariants as stuck
+use Rattle.mount_model.specs.declared.stuck.Stuck.{Stuck}
+use Rattle.mount_model.specs.declared.stuck.Stuck.TheVariants as stuck
 use Rattle.mount_model.specs.declared.reply.Reply.{Reply}
 use Rattle.mount_model.specs.declared.reply.Reply.TheVariants.{Refused, Damaged}
 use Rattle.writer_flow.specs.declared.handle.WriterHandle.{WriterHandle}

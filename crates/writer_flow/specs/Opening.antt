@@ -1,7 +1,7 @@
 -- The calls that open a writer: MakeContainer, Enter, Floor, MakeHostdir, MakeIndex, MakeLog.
 use Rattle.std.specs.Prelude.{ℕ, List, Result, Ok, Err}
-use Rattle.flow.specs.declared.stuck.Stuck.{Stuck}
-use Rattle.story.specs.Program.{Program, done, ask}
+use Rattle.mount_model.specs.declared.stuck.Stuck.{Stuck}
+use Rattle.mount_model.specs.Program.{Program, done, ask}
 use Rattle.mount_model.specs.declared.call.Call.{Call}
 use Rattle.mount_model.specs.declared.call.Call.TheVariants.{MakeContainer, Enter, Floor, MakeHostdir, MakeIndex, MakeLog, Exit}
 use Rattle.mount_model.specs.declared.reply.Reply.{Reply}

@@ -1,8 +1,8 @@
 -- Where the stages of an opening stand in its program.
 use Rattle.std.specs.Prelude.{ℕ, Result}
-use Rattle.flow.specs.declared.stuck.Stuck.{Stuck}
-use Rattle.story.specs.Program.{done}
-use Rattle.flow.specs.Standing.{Standing, ready}
+use Rattle.mount_model.specs.declared.stuck.Stuck.{Stuck}
+use Rattle.mount_model.specs.Program.{done}
+use Rattle.mount_model.specs.Standing.{Standing, ready}
 use Rattle.mount_model.specs.declared.call.Call.{Call}
 use Rattle.mount_model.specs.declared.reply.Reply.{Reply}
 use Rattle.writer_flow.specs.declared.handle.WriterHandle.{WriterHandle}

@@ -1,6 +1,6 @@
 -- The calls of a sync: SyncLog, Flush where something is pending, SyncIndex.
 use Rattle.std.specs.Prelude.{Ok, ◌==◌, if◌then◌else◌}
-use Rattle.story.specs.Program.{Program, done, ask}
+use Rattle.mount_model.specs.Program.{Program, done, ask}
 use Rattle.mount_model.specs.declared.call.Call.{Call}
 use Rattle.mount_model.specs.declared.call.Call.TheVariants.{SyncLog, SyncIndex}
 use Rattle.mount_model.specs.declared.reply.Reply.{Reply}

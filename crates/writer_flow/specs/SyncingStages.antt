@@ -1,7 +1,7 @@
 -- Where the stages of a sync stand in its program.
 use Rattle.std.specs.Prelude.{ℕ}
-use Rattle.story.specs.Program.{Program, done}
-use Rattle.flow.specs.Standing.{Standing, ready}
+use Rattle.mount_model.specs.Program.{Program, done}
+use Rattle.mount_model.specs.Standing.{Standing, ready}
 use Rattle.mount_model.specs.declared.call.Call.{Call}
 use Rattle.mount_model.specs.declared.reply.Reply.{Reply}
 use Rattle.writer_flow.specs.declared.handle.WriterOut.{WriterOut}

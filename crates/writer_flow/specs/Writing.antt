@@ -1,6 +1,6 @@
 -- The calls of a write: Flush where the buffer is full, Write.
 use Rattle.std.specs.Prelude.{ℕ, List, Ok, nat_le, if◌then◌else◌}
-use Rattle.story.specs.Program.{Program, done, ask}
+use Rattle.mount_model.specs.Program.{Program, done, ask}
 use Rattle.mount_model.specs.declared.call.Call.{Call}
 use Rattle.mount_model.specs.declared.call.Call.TheVariants.{Flush, Write}
 use Rattle.mount_model.specs.declared.reply.Reply.{Reply}

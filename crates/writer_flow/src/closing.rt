@@ -1,15 +1,14 @@
 //! A close.
 ghost use Rattle.std.specs.Prelude.{◌≡◌, ◌+◌, ◌<◌, ◌≤◌};
-ghost use Rattle.story.specs.Program.{followed_by, done};
-ghost use Rattle.flow.specs.Standing.{ready, next_of, rest_of, replied, Awaits};
+ghost use Rattle.mount_model.specs.Program.{followed_by, done};
+ghost use Rattle.mount_model.specs.Standing.{ready, next_of, rest_of, replied, Awaits};
 ghost use Rattle.writer_flow.specs.Closing.{close_program, after_sync, if_put, if_left};
 ghost use Rattle.writer_flow.specs.SyncingStages.{sync_stage, stage_left};
 ghost use Rattle.writer_flow.specs.ClosingStages.{close_stage, closes_left, close_standing, close_left};
 
 use crate::handle::{WriterHandle, WriterOut, failed};
 use crate::syncing::{Stage, Syncing};
-use flow::{Flow, Stuck};
-use mount_model::{Call, Reply};
+use mount_model::{Call, Flow, Reply, Stuck};
 use plfs_types::NoMemory;
 
 /// Closes a writer: syncs it, makes its metadata dropping, and leaves. Where the metadata dropping was asked for

@@ -3,8 +3,7 @@ ghost use Rattle.std.specs.Prelude.{◌≡◌, ◌+◌, ◌<◌, ◌^◌};
 ghost use Rattle.writer_flow.specs.Handle.{opened_of, flushed_of, synced_of, one_more_of, closing_of};
 ghost use Rattle.writer_flow.specs.Ending.{trouble as trouble_of, failed as failed_of};
 
-use flow::Stuck;
-use mount_model::Reply;
+use mount_model::{Reply, Stuck};
 
 /// An open writer, as far as the machine before told of it.
 #[derive(Clone, Copy, PartialEq, Eq)]

@@ -2,7 +2,7 @@
 //!
 //! The crate owns which calls each of these statements makes, in which order, and what comes of the replies: each
 //! machine has its program of calls, and what one keeps of an open writer between two machines is its handle. It
-//! stands on `flow` and on the mount's model, and needs no mount.
+//! stands on `mount_model` and on the mount's model, and needs no mount.
 #![tactic(auto)]
 
 mod closing;

@@ -2,8 +2,7 @@
 ghost use Rattle.std.specs.Prelude.{◌≡◌, ◌≤◌};
 
 use crate::handle::{WriterHandle, trouble};
-use flow::{Flow, Stuck};
-use mount_model::{Call, Reply};
+use mount_model::{Call, Flow, Reply, Stuck};
 use plfs_types::{LogicalName, NoMemory};
 
 /// Opens a writer: makes the container where it isn't there, enters, and makes what the writer needs.
@@ -30,7 +29,7 @@ enum Stage {
 }
 
 impl OpenWrite {
-    ghost use Rattle.flow.specs.Standing.{ready};
+    ghost use Rattle.mount_model.specs.Standing.{ready};
     ghost use Rattle.writer_flow.specs.Opening.{open_program};
     ghost use Rattle.writer_flow.specs.OpeningStages.{open_standing};
 
@@ -49,7 +48,7 @@ impl OpenWrite {
 
 impl Stage {
     ghost use Rattle.std.specs.Prelude.{◌<◌};
-    ghost use Rattle.flow.specs.Standing.{ready, next_of, rest_of, replied, Awaits};
+    ghost use Rattle.mount_model.specs.Standing.{ready, next_of, rest_of, replied, Awaits};
     ghost use Rattle.writer_flow.specs.Ending.{trouble as trouble_of};
     ghost use Rattle.writer_flow.specs.OpeningStages.{opening, calls_left};
     ghost use Rattle.writer_flow.specs.declared.opening.Stage.TheVariants.{Leaving};

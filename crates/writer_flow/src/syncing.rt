@@ -1,12 +1,11 @@
 //! A sync.
 ghost use Rattle.std.specs.Prelude.{◌≡◌, ◌<◌};
-ghost use Rattle.flow.specs.Standing.{ready, next_of, rest_of, replied};
+ghost use Rattle.mount_model.specs.Standing.{ready, next_of, rest_of, replied};
 ghost use Rattle.writer_flow.specs.Syncing.{sync_program, flushes_and_syncs};
 ghost use Rattle.writer_flow.specs.SyncingStages.{syncing, syncs_left, sync_stage, stage_left, sync_standing, sync_left};
 
 use crate::handle::{WriterHandle, WriterOut, failed};
-use flow::Flow;
-use mount_model::{Call, Reply};
+use mount_model::{Call, Flow, Reply};
 use plfs_types::NoMemory;
 
 /// Syncs a writer's log and then its index dropping, to which the pending entries go in between.

@@ -3,8 +3,7 @@ ghost use Rattle.std.specs.Prelude.{◌≡◌, ◌<◌, ◌^◌};
 ghost use Rattle.writer_flow.specs.Growing.{pending_then};
 
 use crate::handle::{WriterHandle, WriterOut, failed};
-use flow::{Flow, Stuck};
-use mount_model::{Call, Reply};
+use mount_model::{Call, Flow, Reply, Stuck};
 use plfs_types::{Block, NoMemory};
 use std::mem;
 
@@ -26,7 +25,7 @@ enum Stage {
 }
 
 impl WriteFlow {
-    ghost use Rattle.flow.specs.Standing.{ready};
+    ghost use Rattle.mount_model.specs.Standing.{ready};
     ghost use Rattle.writer_flow.specs.Writing.{write_program};
     ghost use Rattle.writer_flow.specs.WritingStages.{write_standing};
 
@@ -45,7 +44,7 @@ impl WriteFlow {
 
 impl Stage {
     ghost use Rattle.std.specs.Prelude.{◌+◌};
-    ghost use Rattle.flow.specs.Standing.{ready, rest_of, replied, Awaits};
+    ghost use Rattle.mount_model.specs.Standing.{ready, rest_of, replied, Awaits};
     ghost use Rattle.writer_flow.specs.Handle.{flushed_of};
     ghost use Rattle.writer_flow.specs.Writing.{writes, if_flushed, if_wrote};
     ghost use Rattle.writer_flow.specs.WritingStages.{writing, calls_left};

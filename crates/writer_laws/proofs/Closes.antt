@@ -1,9 +1,9 @@
 -- What a close leaves.
 use Rattle.std.proofs.Common.{◌≡◌, ℕ, List, [], ◌∷◌, ◌++◌, Option, Some, None, refl, sym, ap, ◌∙◌, subst, true, false, Bool}
 use Rattle.std.specs.Prelude.{Result, Ok, Err}
-use Rattle.flow.specs.declared.stuck.Stuck.{Stuck}
-use Rattle.flow.specs.declared.stuck.Stuck.TheVariants as stuck
-use Rattle.story.specs.Program.{done}
+use Rattle.mount_model.specs.declared.stuck.Stuck.{Stuck}
+use Rattle.mount_model.specs.declared.stuck.Stuck.TheVariants as stuck
+use Rattle.mount_model.specs.Program.{done}
 use Rattle.mount_model.specs.declared.call.Call.TheVariants as call
 use Rattle.mount_model.specs.declared.reply.Reply.{Reply}
 use Rattle.mount_model.specs.declared.reply.Reply.TheVariants as reply
@@ -19,11 +19,11 @@ use Rattle.writer_flow.specs.Handle.{closing_of}
 use Rattle.writer_flow.specs.Ending.{stays_with, gone_with, trouble}
 use Rattle.writer_flow.specs.Syncing.{sync_program}
 use Rattle.writer_flow.specs.Closing.{if_left, if_put, exits, puts_meta, if_kept, after_sync, close_from, close_program}
-use Rattle.flow.specs.Running.{Runs}
+use Rattle.mount_model.specs.Running.{Runs}
 use Rattle.writer_laws.specs.Counting.{entry_count}
 use Rattle.writer_laws.specs.Knowing.{Knows, StaysOpen, IsClosed}
 use Rattle.turn_object.proofs.Facts.{state_append}
-use Rattle.flow.proofs.Facts.{runs_in_two}
+use Rattle.mount_model.proofs.Flows.Facts.{runs_in_two}
 use Rattle.writer_laws.proofs.Own.{put_meta_own, exit_own}
 use Rattle.writer_laws.proofs.Machines.{reached, finished, sync_ends}
 

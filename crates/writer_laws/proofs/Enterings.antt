@@ -3,10 +3,10 @@ use Rattle.std.proofs.Common.{◌≡◌, ℕ, List, [], ◌∷◌, ◌++◌, ref
 use Rattle.std.specs.Prelude.{Result, Ok, Err}
 use Rattle.turn_object.specs.Callers.{made_by}
 use Rattle.turn_object.proofs.Facts.{state_append}
-use Rattle.story.specs.Program.{done, ask}
-use Rattle.story.specs.Calls.{AreCallsOf}
-use Rattle.flow.specs.declared.stuck.Stuck.{Stuck}
-use Rattle.flow.specs.Running.{unbroken, asking, Runs}
+use Rattle.mount_model.specs.Program.{done, ask}
+use Rattle.mount_model.specs.Calls.{AreCallsOf}
+use Rattle.mount_model.specs.declared.stuck.Stuck.{Stuck}
+use Rattle.mount_model.specs.Running.{unbroken, asking, Runs}
 use Rattle.mount_model.specs.declared.call.Ask.{Ask}
 use Rattle.mount_model.specs.declared.call.Call.{Call}
 use Rattle.mount_model.specs.declared.call.Call.TheVariants as call

@@ -2,12 +2,12 @@
 use Rattle.std.proofs.Common.{◌≡◌, ◌⊎◌, ℕ, ◌+◌, Bool, true, false, List, [], ◌∷◌, ◌++◌, Option, Some, None, refl, sym, ap, ◌∙◌, inl, inr, subst, arith, append_assoc}
 use Rattle.std.specs.Prelude.{Result, Ok, Err}
 use Rattle.turn_object.specs.Callers.{made_by}
-use Rattle.story.specs.Calls.{AreCallsOf}
-use Rattle.story.proofs.Facts.{entries_both}
-use Rattle.flow.specs.declared.stuck.Stuck.{Stuck}
-use Rattle.flow.specs.declared.stuck.Stuck.TheVariants as stuck
-use Rattle.flow.specs.Running.{unbroken, asking, Runs}
-use Rattle.flow.proofs.Facts.{runs_in_two}
+use Rattle.mount_model.specs.Calls.{AreCallsOf}
+use Rattle.mount_model.proofs.Stories.Facts.{entries_both}
+use Rattle.mount_model.specs.declared.stuck.Stuck.{Stuck}
+use Rattle.mount_model.specs.declared.stuck.Stuck.TheVariants as stuck
+use Rattle.mount_model.specs.Running.{unbroken, asking, Runs}
+use Rattle.mount_model.proofs.Flows.Facts.{runs_in_two}
 use Rattle.mount_model.specs.declared.call.Call.TheVariants as call
 use Rattle.mount_model.specs.declared.reply.Reply.{Reply}
 use Rattle.mount_model.specs.declared.reply.Reply.TheVariants as reply

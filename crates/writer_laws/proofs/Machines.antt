@@ -2,8 +2,8 @@
 use Rattle.std.proofs.Common.{◌≡◌, ◌≢◌, ℕ, ◌+◌, List, [], ◌∷◌, length, refl, sym, ap, ◌∙◌, inl, inr, subst, arith, true, false, nat_eq}
 use Rattle.std.specs.Prelude.{if◌then◌else◌, nat_le, Result, Ok, Err}
 use Rattle.std.proofs.lemmas.Bool.Decides.{nat_tests}
-use Rattle.flow.specs.declared.stuck.Stuck.{Stuck}
-use Rattle.story.specs.Program.{Program, done, ask}
+use Rattle.mount_model.specs.declared.stuck.Stuck.{Stuck}
+use Rattle.mount_model.specs.Program.{Program, done, ask}
 use Rattle.mount_model.specs.declared.call.Ask.{Ask}
 use Rattle.mount_model.specs.declared.call.Call.{Call}
 use Rattle.mount_model.specs.declared.call.Call.TheVariants as call
@@ -20,11 +20,11 @@ use Rattle.writer_flow.specs.Handle.{flushed_of, one_more_of, synced_of}
 use Rattle.writer_flow.specs.Ending.{stays_with, trouble}
 use Rattle.writer_flow.specs.Writing.{if_flushed, if_wrote, writes, write_program}
 use Rattle.writer_flow.specs.Syncing.{if_synced, syncs_index, flushes_and_syncs, if_log_synced, sync_program}
-use Rattle.flow.specs.Running.{Runs}
+use Rattle.mount_model.specs.Running.{Runs}
 use Rattle.writer_laws.specs.Counting.{entry_count}
 use Rattle.writer_laws.specs.Knowing.{HasRow, Knows, KeepsHandle, IsSynced}
 use Rattle.writer_laws.proofs.Stops.{whole_answers, spared_row}
-use Rattle.flow.proofs.Facts.{runs_next, runs_done}
+use Rattle.mount_model.proofs.Flows.Facts.{runs_next, runs_done}
 use Rattle.writer_laws.proofs.Own.{sync_log_own, sync_index_own, flush_own, FlushedOwn, write_own, WroteOwn}
 
 -- handles of one writer, both closing or neither

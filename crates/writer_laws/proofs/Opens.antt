@@ -4,8 +4,8 @@ use Rattle.std.specs.Prelude.{Result, Ok, Err, if◌then◌else◌}
 use Rattle.std.specs.List.{All}
 use Rattle.std.proofs.lemmas.List.Elements.{All-head, All-tail}
 use Rattle.std.proofs.lemmas.Bool.Decides.{nat_tests}
-use Rattle.flow.specs.declared.stuck.Stuck.{Stuck}
-use Rattle.story.specs.Program.{Program, done, ask}
+use Rattle.mount_model.specs.declared.stuck.Stuck.{Stuck}
+use Rattle.mount_model.specs.Program.{Program, done, ask}
 use Rattle.mount_model.specs.declared.call.Ask.{Ask}
 use Rattle.mount_model.specs.declared.call.Call.{Call}
 use Rattle.mount_model.specs.declared.call.Call.TheVariants as call
@@ -24,8 +24,8 @@ use Rattle.writer_flow.specs.declared.handle.WriterHandle.{WriterHandle}
 use Rattle.writer_flow.specs.Handle.{opened_of}
 use Rattle.writer_flow.specs.Ending.{trouble}
 use Rattle.writer_flow.specs.Opening.{Opening, leaves, if_done, makes_log, makes_index, makes_hostdir, if_floored, finds_floor, if_entered, if_made, open_program}
-use Rattle.flow.specs.Running.{Runs}
-use Rattle.flow.proofs.Facts.{runs_next}
+use Rattle.mount_model.specs.Running.{Runs}
+use Rattle.mount_model.proofs.Flows.Facts.{runs_next}
 use Rattle.writer_laws.proofs.Regulars.{AreRegular, are_regular}
 use Rattle.writer_laws.specs.Counting.{entry_count, wrote_by, StaysInAt}
 use Rattle.writer_laws.specs.Knowing.{HasRow, IsOpened}

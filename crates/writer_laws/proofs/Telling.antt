@@ -6,12 +6,12 @@ use Rattle.std.proofs.lemmas.List.Elements.{All-head, All-tail}
 use mathlib.Core.Logic.{dite}
 use native.Mathlib.Decide.{ℕ_discrete}
 use Rattle.turn_object.specs.Callers.{made_by}
-use Rattle.story.specs.Program.{Program, ask}
-use Rattle.story.specs.Calls.{AreCallsOf}
-use Rattle.story.proofs.Facts.{entries_both, entries_first, entries_not_first}
-use Rattle.flow.specs.declared.stuck.Stuck.{Stuck}
-use Rattle.flow.specs.Running.{unbroken, asking, Runs}
-use Rattle.flow.proofs.Facts.{runs_next}
+use Rattle.mount_model.specs.Program.{Program, ask}
+use Rattle.mount_model.specs.Calls.{AreCallsOf}
+use Rattle.mount_model.proofs.Stories.Facts.{entries_both, entries_first, entries_not_first}
+use Rattle.mount_model.specs.declared.stuck.Stuck.{Stuck}
+use Rattle.mount_model.specs.Running.{unbroken, asking, Runs}
+use Rattle.mount_model.proofs.Flows.Facts.{runs_next}
 use Rattle.mount_model.specs.declared.call.Ask.{Ask}
 use Rattle.mount_model.specs.declared.call.Call.{Call}
 use Rattle.mount_model.specs.declared.call.Call.TheVariants as call

@@ -14,8 +14,8 @@ use Rattle.store_api.specs.Step.{Step, create}
 use Rattle.store_laws.specs.Files.{file_at}
 use Rattle.store_laws.specs.Tells.{Tells}
 use Rattle.mount_model.specs.Paths.{Name, trunc_path, truncs as truncs_folder}
-use Rattle.mount_shape.specs.Marks.{IsOfMark}
-use Rattle.gathering.specs.Moments.{HadTrunc, IsSoundAt, Moment}
+use Rattle.mount_sound.specs.Marks.{IsOfMark}
+use Rattle.reader_laws.specs.Moments.{HadTrunc, IsSoundAt, Moment}
 use Rattle.drain_copy.specs.declared.outcome.Drained.{Drained}
 use Rattle.drain_copy.specs.declared.plan.Due.{Due}
 use Rattle.drain_copy.specs.Asking.{acts}

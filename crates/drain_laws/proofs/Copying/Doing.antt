@@ -15,13 +15,13 @@ use Rattle.store_laws.specs.Naming.{NamesFile}
 use Rattle.mount_model.specs.declared.call.Call.TheVariants.{Look}
 use Rattle.mount_model.specs.declared.call.Look.TheVariants.{Read}
 use Rattle.mount_model.specs.Paths.{Name, index_path, log_path, open_path}
-use Rattle.mount_shape.specs.Container.{IsContainer}
-use Rattle.mount_shape.specs.Marks.{IsOfMark}
+use Rattle.mount_sound.specs.Container.{IsContainer}
+use Rattle.mount_sound.specs.Marks.{IsOfMark}
 use Rattle.mount_sound.specs.Dropping.{bytes_of, log_bytes}
 use Rattle.mount_sound.specs.Items.{HasMeta}
 use Rattle.mount_sound.proofs.Facts.{apart}
-use Rattle.gathering.specs.Moments.{Grows, IsSoundAt, Moment}
-use Rattle.gathering.proofs.Facts.{stood_grows}
+use Rattle.reader_laws.specs.Moments.{Grows, IsSoundAt, Moment}
+use Rattle.reader_laws.proofs.Gathered.Facts.{stood_grows}
 use Rattle.drain_copy.specs.declared.outcome.Drained.{Drained}
 use Rattle.drain_copy.specs.declared.plan.Due.{Due}
 use Rattle.drain_copy.specs.Copying.{index_of, log_of}

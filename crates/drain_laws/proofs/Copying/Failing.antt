@@ -18,11 +18,11 @@ use Rattle.mount_sound.specs.Dropping.{bytes_of}
 use Rattle.mount_sound.specs.Entries.{logged}
 use Rattle.mount_sound.specs.Ledger.{entries_in}
 use Rattle.mount_sound.proofs.Facts.{logged_take, take_less}
-use Rattle.flow.specs.declared.stuck.Stuck.TheVariants as stuck
-use Rattle.flow.specs.Replies.{damage}
-use Rattle.flow.specs.Running.{unbroken}
-use Rattle.gathering.specs.Moments.{Dropping, IsSoundAt, Moment, landed, log_then}
-use Rattle.gathering.proofs.Facts.{landed_logged, read_ends}
+use Rattle.mount_model.specs.declared.stuck.Stuck.TheVariants as stuck
+use Rattle.mount_model.specs.FlowReplies.{damage}
+use Rattle.mount_model.specs.Running.{unbroken}
+use Rattle.reader_laws.specs.Moments.{Dropping, IsSoundAt, Moment, landed, log_then}
+use Rattle.reader_laws.proofs.Gathered.Facts.{landed_logged, read_ends}
 use Rattle.reader_laws.proofs.Calls.Troubles.{answered}
 use Rattle.reader_laws.proofs.Faults.TailFails.{stood_container}
 use Rattle.reader_laws.proofs.Soundness.LookEnds.{container_of}

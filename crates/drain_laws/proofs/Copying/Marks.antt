@@ -20,11 +20,11 @@ use Rattle.mount_model.specs.Paths.{Name, index_path, mark_path, new_files, new_
 use Rattle.store_api.specs.Names.{marks_folder}
 use Rattle.store_api.specs.Names.{marks_name}
 use Rattle.mount_model.specs.State.{id_of}
-use Rattle.mount_shape.specs.Marks.{HasMark}
+use Rattle.mount_sound.specs.Marks.{HasMark}
 use Rattle.mount_sound.specs.Dropping.{bytes_of, log_bytes}
 use Rattle.mount_sound.specs.Items.{HasMeta}
 use Rattle.mount_sound.proofs.Facts.{IsBare, hostdir_below, no_item}
-use Rattle.gathering.specs.Moments.{HadTrunc, IsSoundAt, Moment}
+use Rattle.reader_laws.specs.Moments.{HadTrunc, IsSoundAt, Moment}
 use Rattle.drain_copy.specs.declared.outcome.Drained.{Drained}
 use Rattle.drain_copy.specs.declared.outcome.DrainStuck.{DrainStuck}
 use Rattle.drain_copy.specs.declared.plan.Due.{Due}

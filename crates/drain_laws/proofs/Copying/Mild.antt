@@ -18,7 +18,7 @@ use Rattle.store_laws.specs.Naming.{IsPathOf, KeepsRoom, NamesFile, NamesRoom, O
 use Rattle.store_laws.specs.Tells.{Tells}
 use Rattle.store_laws.proofs.Facts.{changed_room, create_told, kept_told, keeps_rooms, lengthens_told, path_cases}
 use Rattle.mount_model.specs.Paths.{index_path, log_path, mark_path}
-use Rattle.mount_shape.specs.Marks.{IsOfMark}
+use Rattle.mount_sound.specs.Marks.{IsOfMark}
 use Rattle.mount_sound.specs.Dropping.{bytes_of, log_bytes}
 use Rattle.mount_sound.specs.Items.{HasItem, HasMeta}
 use Rattle.mount_sound.proofs.Facts.{apart}

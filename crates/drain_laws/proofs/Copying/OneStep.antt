@@ -8,7 +8,7 @@ use Rattle.store_api.specs.declared.tree.Tree.{Tree}
 use Rattle.store_api.specs.Step.{Step}
 use Rattle.store_laws.specs.Tells.{Tells}
 use Rattle.mount_model.specs.Paths.{Name}
-use Rattle.gathering.specs.Moments.{IsSoundAt, Moment}
+use Rattle.reader_laws.specs.Moments.{IsSoundAt, Moment}
 use Rattle.drain_copy.specs.declared.outcome.Drained.{Drained}
 use Rattle.drain_copy.specs.declared.outcome.DrainStuck.{DrainStuck}
 use Rattle.drain_copy.specs.declared.plan.Due.{Due}

@@ -19,7 +19,7 @@ use Rattle.store_laws.proofs.Facts.{changed_room, create_told, length-overwritte
 use Rattle.mount_model.specs.declared.reply.Reply.{Reply}
 use Rattle.mount_model.specs.declared.reply.Reply.TheVariants.{Looked}
 use Rattle.mount_sound.specs.Dropping.{bytes_of}
-use Rattle.flow.specs.Replies.{damage}
+use Rattle.mount_model.specs.FlowReplies.{damage}
 use Rattle.drain_copy.specs.declared.outcome.DrainStuck.{DrainStuck}
 use Rattle.drain_copy.specs.declared.outcome.DrainStuck.TheVariants.{Source}
 use Rattle.mount_model.specs.Making.{Told}

@@ -22,7 +22,7 @@ use Rattle.container_layout.specs.Paths.{openhosts}
 use Rattle.store_api.specs.Names.{marks_name}
 use Rattle.mount_sound.specs.Dropping.{bytes_of}
 use Rattle.mount_sound.proofs.Facts.{IsBare, made_bare}
-use Rattle.gathering.specs.Moments.{Moment}
+use Rattle.reader_laws.specs.Moments.{Moment}
 use Rattle.reader_laws.proofs.Faults.ScanFails.{no_openhosts}
 use Rattle.mount_model.specs.Making.{Told}
 use Rattle.drain_sound.specs.Fronts.{IsTarget}

@@ -23,12 +23,12 @@ use Rattle.mount_model.specs.declared.call.Call.TheVariants.{Look}
 use Rattle.mount_model.specs.declared.call.Look.TheVariants.{Read}
 use Rattle.mount_model.specs.declared.reply.Reply.TheVariants.{Looked}
 use Rattle.mount_model.specs.Paths.{Name, index_path, log_path, open_path}
-use Rattle.mount_shape.specs.Marks.{IsOfMark}
-use Rattle.mount_shape.proofs.Facts.{item_held}
+use Rattle.mount_sound.specs.Marks.{IsOfMark}
+use Rattle.mount_sound.proofs.Shapes.Facts.{item_held}
 use Rattle.mount_sound.specs.Dropping.{bytes_of, log_bytes}
 use Rattle.mount_sound.proofs.Facts.{apart}
-use Rattle.gathering.specs.Moments.{IsSoundAt, Moment}
-use Rattle.gathering.proofs.Facts.{answers_as, read_told}
+use Rattle.reader_laws.specs.Moments.{IsSoundAt, Moment}
+use Rattle.reader_laws.proofs.Gathered.Facts.{answers_as, read_told}
 use Rattle.drain_copy.specs.declared.outcome.Drained.{Drained}
 use Rattle.drain_copy.specs.declared.plan.Copying.{Copying}
 use Rattle.drain_copy.specs.declared.plan.Due.{Due}

@@ -10,12 +10,12 @@ use Rattle.mount_model.specs.declared.call.Call.TheVariants.{Find}
 use Rattle.mount_model.specs.History.{Event}
 use Rattle.mount_model.specs.Paths.{Name}
 use Rattle.mount_sound.specs.Owed.{IsLawful}
-use Rattle.flow.specs.declared.stuck.Stuck.{Stuck}
-use Rattle.flow.specs.declared.stuck.Stuck.TheVariants as stuck
-use Rattle.flow.specs.Running.{Runs}
-use Rattle.story.proofs.Facts.{entries_not_first}
-use Rattle.gathering.specs.Moments.{Grows, IsSoundAt, Moment, moment_after, next_moment}
-use Rattle.gathering.proofs.Facts.{grows_after, grows_refl, grows_trans, legal_first, legal_rest, moment-append, sound_after}
+use Rattle.mount_model.specs.declared.stuck.Stuck.{Stuck}
+use Rattle.mount_model.specs.declared.stuck.Stuck.TheVariants as stuck
+use Rattle.mount_model.specs.Running.{Runs}
+use Rattle.mount_model.proofs.Stories.Facts.{entries_not_first}
+use Rattle.reader_laws.specs.Moments.{Grows, IsSoundAt, Moment, moment_after, next_moment}
+use Rattle.reader_laws.proofs.Gathered.Facts.{grows_after, grows_refl, grows_trans, legal_first, legal_rest, moment-append, sound_after}
 use Rattle.reader_laws.specs.Failing.{IsContainerAt}
 use Rattle.reader_laws.proofs.Facts.{container_later}
 use Rattle.drain_read.specs.declared.held.Held.{Held}

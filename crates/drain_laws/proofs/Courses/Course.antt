@@ -11,9 +11,9 @@ use Rattle.mount_model.specs.Paths.{Name}
 use Rattle.mount_sound.specs.Entries.{logged}
 use Rattle.mount_sound.specs.Ledger.{entries_in}
 use Rattle.mount_sound.proofs.Facts.{logged_take, take_less}
-use Rattle.flow.specs.declared.stuck.Stuck.TheVariants as stuck
-use Rattle.gathering.specs.Moments.{Dropping, Grows, IsSoundAt, Moment, landed}
-use Rattle.gathering.proofs.Facts.{entries_stay, grows_after, grows_trans, landed_whole}
+use Rattle.mount_model.specs.declared.stuck.Stuck.TheVariants as stuck
+use Rattle.reader_laws.specs.Moments.{Dropping, Grows, IsSoundAt, Moment, landed}
+use Rattle.reader_laws.proofs.Gathered.Facts.{entries_stay, grows_after, grows_trans, landed_whole}
 use Rattle.drain_copy.specs.declared.outcome.Drained.{Drained}
 use Rattle.drain_copy.specs.declared.outcome.DrainStuck.{DrainStuck}
 use Rattle.drain_copy.specs.declared.outcome.DrainStuck.TheVariants.{Source}

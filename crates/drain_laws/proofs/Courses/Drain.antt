@@ -4,9 +4,9 @@ use Rattle.plain_file.proofs.Facts.{Among}
 use Rattle.store_api.specs.declared.tree.Tree.{Tree}
 use Rattle.store_api.specs.Acts.{Stored}
 use Rattle.mount_model.specs.Paths.{Name}
-use Rattle.flow.specs.declared.stuck.Stuck.TheVariants as stuck
-use Rattle.gathering.specs.Moments.{Grows, IsSoundAt, Moment, Stood}
-use Rattle.gathering.proofs.Facts.{all_at, grows_after, grows_trans, sound_after}
+use Rattle.mount_model.specs.declared.stuck.Stuck.TheVariants as stuck
+use Rattle.reader_laws.specs.Moments.{Grows, IsSoundAt, Moment, Stood}
+use Rattle.reader_laws.proofs.Gathered.Facts.{all_at, grows_after, grows_trans, sound_after}
 use Rattle.reader_laws.specs.Failing.{IsContainerAt}
 use Rattle.reader_laws.proofs.Facts.{container_later}
 use Rattle.reader_laws.proofs.Faults.TailFails.{stood_container}

@@ -14,8 +14,8 @@ use Rattle.mount_model.specs.Paths.{Name, index_path, log_path}
 use Rattle.mount_sound.specs.Entries.{logged}
 use Rattle.mount_sound.specs.Items.{HasItem}
 use Rattle.mount_sound.specs.Ledger.{entries_in}
-use Rattle.gathering.specs.Moments.{Dropping, Grows, HadTrunc, IsSoundAt, Moment, Stood, landed}
-use Rattle.gathering.proofs.Facts.{all_at, among, any_found}
+use Rattle.reader_laws.specs.Moments.{Dropping, Grows, HadTrunc, IsSoundAt, Moment, Stood, landed}
+use Rattle.reader_laws.proofs.Gathered.Facts.{all_at, among, any_found}
 use Rattle.std.proofs.lemmas.List.Elements.{recursion_from_All}
 use Rattle.drain_read.specs.declared.held.Held.{Held}
 use Rattle.drain_read.specs.declared.held.Mirror.{Mirror}

@@ -25,8 +25,8 @@ use Rattle.mount_sound.specs.Keeping.{kept_in}
 use Rattle.mount_sound.specs.Ledger.{Written, content, entries_in}
 use Rattle.mount_sound.specs.Owed.{IsLawful}
 use Rattle.mount_sound.proofs.Facts.{AreKept, AreKeptIn, IsBare, are_kept, hostdir_below, its_writers, kept_no_less, one_tree, step_keeps_kept}
-use Rattle.gathering.specs.Moments.{Dropping, Grows, IsSoundAt, Moment, index_then, landed, moment_after, next_moment}
-use Rattle.gathering.proofs.Facts.{entries_stay, grows_after, grows_refl, grows_trans, in_a_room, in_tree, landed_whole, sound_after}
+use Rattle.reader_laws.specs.Moments.{Dropping, Grows, IsSoundAt, Moment, index_then, landed, moment_after, next_moment}
+use Rattle.reader_laws.proofs.Gathered.Facts.{entries_stay, grows_after, grows_refl, grows_trans, in_a_room, in_tree, landed_whole, sound_after}
 use Rattle.drain_copy.specs.declared.outcome.Drained.{Drained}
 use Rattle.drain_copy.specs.declared.plan.Due.{Due}
 use Rattle.mount_model.specs.Making.{Told}

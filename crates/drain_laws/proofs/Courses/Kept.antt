@@ -4,8 +4,8 @@ use Rattle.store_api.specs.declared.tree.Tree.{Tree}
 use Rattle.store_api.specs.Acts.{Stored}
 use Rattle.mount_model.specs.Paths.{Name}
 use Rattle.mount_sound.proofs.Facts.{one_tree}
-use Rattle.gathering.specs.Moments.{IsSoundAt, Moment}
-use Rattle.gathering.proofs.Facts.{grows_refl}
+use Rattle.reader_laws.specs.Moments.{IsSoundAt, Moment}
+use Rattle.reader_laws.proofs.Gathered.Facts.{grows_refl}
 use Rattle.drain_copy.specs.Draining.{drain_program}
 use Rattle.drain_copy.specs.Telling.{DrainsOn}
 use Rattle.drain_sound.specs.Draining.{Happening, source_after, target_after}

@@ -9,8 +9,8 @@ use Rattle.mount_model.specs.Paths.{Name}
 use Rattle.mount_sound.specs.Dropping.{bytes_of}
 use Rattle.mount_sound.specs.Landed.{whole}
 use Rattle.mount_sound.specs.Owed.{IsLawful}
-use Rattle.gathering.specs.Moments.{Dropping, IsSoundAt, Moment, Stood, index_then, issued_by, landed}
-use Rattle.gathering.proofs.Facts.{grows_refl, grows_trans, landed_whole, legal_first, sound_after, stood_grows}
+use Rattle.reader_laws.specs.Moments.{Dropping, IsSoundAt, Moment, Stood, index_then, issued_by, landed}
+use Rattle.reader_laws.proofs.Gathered.Facts.{grows_refl, grows_trans, landed_whole, legal_first, sound_after, stood_grows}
 use Rattle.drain_copy.specs.declared.outcome.Drained.{Drained}
 use Rattle.drain_copy.specs.Asking.{ends}
 use Rattle.drain_copy.specs.Draining.{drain_program}

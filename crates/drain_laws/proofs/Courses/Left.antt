@@ -15,7 +15,7 @@ use Rattle.mount_model.specs.Paths.{Name, index_path, log_path}
 use Rattle.mount_sound.specs.Dropping.{bytes_of}
 use Rattle.mount_sound.specs.Entries.{logged}
 use Rattle.mount_sound.specs.Ledger.{entries_in}
-use Rattle.gathering.specs.Moments.{Moment, landed}
+use Rattle.reader_laws.specs.Moments.{Moment, landed}
 use Rattle.drain_copy.specs.declared.outcome.Drained.{Drained}
 use Rattle.drain_copy.specs.declared.plan.Due.{Due}
 use Rattle.drain_sound.specs.Fronts.{dropping_in}

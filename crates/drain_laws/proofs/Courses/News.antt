@@ -14,8 +14,8 @@ use Rattle.mount_model.specs.Paths.{Name, index_path}
 use Rattle.mount_sound.specs.Dropping.{bytes_of}
 use Rattle.mount_sound.specs.Entries.{logged}
 use Rattle.mount_sound.specs.Ledger.{entries_in}
-use Rattle.gathering.specs.Moments.{Dropping, Grows, IsSoundAt, Moment, Stood, landed}
-use Rattle.gathering.proofs.Facts.{entries_stay, grows_after, grows_trans, landed_whole, length-entries, length_taken, stood_grows}
+use Rattle.reader_laws.specs.Moments.{Dropping, Grows, IsSoundAt, Moment, Stood, landed}
+use Rattle.reader_laws.proofs.Gathered.Facts.{entries_stay, grows_after, grows_trans, landed_whole, length-entries, length_taken, stood_grows}
 use Rattle.drain_read.specs.declared.read.WriterRead.{WriterRead}
 use Rattle.drain_copy.specs.declared.outcome.Drained.{Drained}
 use Rattle.drain_copy.specs.declared.plan.Due.{Due}

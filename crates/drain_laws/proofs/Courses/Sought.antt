@@ -17,8 +17,8 @@ use Rattle.mount_model.specs.declared.reply.Reply.{Reply}
 use Rattle.mount_model.specs.declared.reply.Reply.TheVariants.{Room as RoomReply}
 use Rattle.mount_model.specs.History.{Event}
 use Rattle.mount_model.specs.Paths.{Name}
-use Rattle.flow.specs.declared.stuck.Stuck.TheVariants as stuck
-use Rattle.gathering.specs.Moments.{Moment}
+use Rattle.mount_model.specs.declared.stuck.Stuck.TheVariants as stuck
+use Rattle.reader_laws.specs.Moments.{Moment}
 use Rattle.drain_copy.specs.declared.outcome.DrainStuck.{DrainStuck}
 use Rattle.drain_copy.specs.declared.outcome.DrainStuck.TheVariants.{Source, TargetFault}
 use Rattle.mount_model.specs.Making.{Told}

@@ -6,8 +6,8 @@ use Rattle.store_api.specs.Acts.{Stored}
 use Rattle.mount_model.specs.declared.reply.Refusal.TheVariants.{NoRoom}
 use Rattle.mount_model.specs.Paths.{Name}
 use Rattle.container_layout.specs.Paths.{openhosts}
-use Rattle.flow.specs.declared.stuck.Stuck.TheVariants as stuck
-use Rattle.gathering.specs.Moments.{IsSoundAt, Moment}
+use Rattle.mount_model.specs.declared.stuck.Stuck.TheVariants as stuck
+use Rattle.reader_laws.specs.Moments.{IsSoundAt, Moment}
 use Rattle.drain_copy.specs.declared.outcome.DrainStuck.{DrainStuck}
 use Rattle.drain_copy.specs.declared.outcome.DrainStuck.TheVariants.{Source, Taken, TargetDamaged, TargetFault}
 use Rattle.drain_copy.specs.Asking.{ends}

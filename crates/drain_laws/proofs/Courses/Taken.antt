@@ -17,8 +17,8 @@ use Rattle.store_laws.proofs.Facts.{find_tells}
 use Rattle.mount_model.specs.Paths.{Name}
 use Rattle.mount_sound.specs.Items.{HasMeta}
 use Rattle.mount_sound.proofs.Facts.{one_tree}
-use Rattle.gathering.specs.Moments.{Dropping, Grows, IsSoundAt, Moment, Stood, landed}
-use Rattle.gathering.proofs.Facts.{all_at, any_found, grows_refl, grows_trans, stood_grows}
+use Rattle.reader_laws.specs.Moments.{Dropping, Grows, IsSoundAt, Moment, Stood, landed}
+use Rattle.reader_laws.proofs.Gathered.Facts.{all_at, any_found, grows_refl, grows_trans, stood_grows}
 use Rattle.drain_read.specs.declared.held.Held.{Held}
 use Rattle.drain_read.specs.declared.held.Mirror.{Mirror}
 use Rattle.drain_read.specs.declared.read.WriterRead.{WriterRead}

@@ -13,11 +13,11 @@ use Rattle.mount_model.specs.Paths.{Name}
 use Rattle.mount_model.specs.State.{State}
 use Rattle.mount_sound.specs.Items.{HasItem}
 use Rattle.mount_sound.specs.Owed.{IsLawful}
-use Rattle.gathering.specs.Gathering.{Gathered, IsAdmissible, IsPrefixOf}
-use Rattle.gathering.specs.Moments.{Dropping, Grows, HadTrunc, IsSoundAt, Moment, Stood, landed, moment_after}
-use Rattle.gathering.specs.Opening.{HasView}
-use Rattle.gathering.specs.View.{WritersRise, view as view_of}
-use Rattle.gathering.proofs.Facts.{any_found, found_any, grows_after, moment-append}
+use Rattle.reader_laws.specs.Gathering.{Gathered, IsAdmissible, IsPrefixOf}
+use Rattle.reader_laws.specs.Moments.{Dropping, Grows, HadTrunc, IsSoundAt, Moment, Stood, landed, moment_after}
+use Rattle.reader_laws.specs.GatheringOpening.{HasView}
+use Rattle.reader_laws.specs.View.{WritersRise, view as view_of}
+use Rattle.reader_laws.proofs.Gathered.Facts.{any_found, found_any, grows_after, moment-append}
 use Rattle.drain_sound.specs.Fronts.{IsTarget, dropping_in}
 use Rattle.drain_sound.specs.Steps.{IsNamedRoom}
 use Rattle.drain_sound.specs.Views.{HasCopied, StaysQuiet, cut_there, mounted_there}

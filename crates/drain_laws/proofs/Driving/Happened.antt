@@ -9,7 +9,7 @@ use Rattle.mount_model.specs.declared.call.Call.{Call}
 use Rattle.mount_model.specs.History.{Event}
 use Rattle.mount_model.specs.Paths.{Name}
 use Rattle.mount_sound.specs.Owed.{IsLawful}
-use Rattle.gathering.specs.Moments.{Moment, moment_after, next_moment}
+use Rattle.reader_laws.specs.Moments.{Moment, moment_after, next_moment}
 use Rattle.drain_sound.specs.Draining.{Happening, IsDraining, at_source, at_target, source_after, target_after}
 use Rattle.drain_sound.specs.Steps.{looks}
 use Rattle.drain_laws.specs.Driving.{AreMade, FindsRoom}

@@ -16,13 +16,13 @@ use Rattle.mount_model.specs.declared.call.Look.TheVariants.{Top, List as ListFo
 use Rattle.mount_model.specs.declared.reply.Reply.{Reply}
 use Rattle.mount_model.specs.History.{Event}
 use Rattle.mount_sound.specs.Owed.{IsLawful}
-use Rattle.flow.specs.declared.stuck.Stuck.{Stuck}
-use Rattle.flow.specs.Replies.{Tries}
-use Rattle.flow.specs.Running.{Runs, asking, unbroken}
-use Rattle.story.specs.Program.{Program, done, ask}
-use Rattle.story.specs.Calls.{AreCallsOf}
-use Rattle.story.proofs.Facts.{after_own, entries_not_first}
-use Rattle.gathering.specs.Moments.{Moment, next_moment}
+use Rattle.mount_model.specs.declared.stuck.Stuck.{Stuck}
+use Rattle.mount_model.specs.FlowReplies.{Tries}
+use Rattle.mount_model.specs.Running.{Runs, asking, unbroken}
+use Rattle.mount_model.specs.Program.{Program, done, ask}
+use Rattle.mount_model.specs.Calls.{AreCallsOf}
+use Rattle.mount_model.proofs.Stories.Facts.{after_own, entries_not_first}
+use Rattle.reader_laws.specs.Moments.{Moment, next_moment}
 use Rattle.drain_copy.specs.declared.outcome.DrainStuck.{DrainStuck}
 use Rattle.drain_copy.specs.Asking.{acts, at_source as on_source, at_target as on_target, calls, ends, look_reply, look_step}
 use Rattle.mount_model.specs.Making.{Told}

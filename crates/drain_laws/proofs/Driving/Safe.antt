@@ -9,8 +9,8 @@ use Rattle.store_laws.proofs.Facts.{acts_told}
 use Rattle.mount_model.specs.declared.call.Call.{Call}
 use Rattle.mount_model.specs.History.{Event}
 use Rattle.mount_sound.specs.Owed.{IsLawful}
-use Rattle.flow.specs.Running.{unbroken}
-use Rattle.gathering.specs.Moments.{Moment, next_moment}
+use Rattle.mount_model.specs.Running.{unbroken}
+use Rattle.reader_laws.specs.Moments.{Moment, next_moment}
 use Rattle.drain_copy.specs.declared.outcome.DrainStuck.{DrainStuck}
 use Rattle.drain_copy.specs.Asking.{acts, calls, ends}
 use Rattle.mount_model.specs.Making.{Told}

@@ -10,8 +10,8 @@ use Rattle.mount_model.specs.History.{Event}
 use Rattle.mount_model.specs.Paths.{Name}
 use Rattle.mount_sound.specs.Owed.{IsLawful}
 use Rattle.mount_sound.proofs.Facts.{one_tree}
-use Rattle.gathering.specs.Moments.{IsSoundAt, Moment, next_moment}
-use Rattle.gathering.proofs.Facts.{grows_after, grows_refl, grows_trans, sound_after}
+use Rattle.reader_laws.specs.Moments.{IsSoundAt, Moment, next_moment}
+use Rattle.reader_laws.proofs.Gathered.Facts.{grows_after, grows_refl, grows_trans, sound_after}
 use Rattle.drain_copy.specs.declared.outcome.Drained.{Drained}
 use Rattle.drain_copy.specs.declared.outcome.DrainStuck.{DrainStuck}
 use Rattle.drain_copy.specs.declared.plan.Due.{Due}

@@ -16,8 +16,8 @@ use Rattle.mount_model.specs.Paths.{Name, index_path, log_path}
 use Rattle.container_layout.specs.Paths.{openhosts}
 use Rattle.mount_sound.specs.Dropping.{log_bytes}
 use Rattle.mount_sound.proofs.Facts.{AreKeptIn}
-use Rattle.flow.specs.declared.stuck.Stuck.TheVariants as stuck
-use Rattle.gathering.specs.Moments.{Grows, IsSoundAt, Moment}
+use Rattle.mount_model.specs.declared.stuck.Stuck.TheVariants as stuck
+use Rattle.reader_laws.specs.Moments.{Grows, IsSoundAt, Moment}
 use Rattle.drain_copy.specs.declared.outcome.Drained.{Drained}
 use Rattle.drain_copy.specs.declared.outcome.DrainStuck.{DrainStuck}
 use Rattle.drain_copy.specs.declared.outcome.DrainStuck.TheVariants.{Source, TargetDamaged, TargetFault}

@@ -9,9 +9,9 @@ use Rattle.store_laws.proofs.Facts.{prefix_length, prefix_rest}
 use Rattle.mount_sound.specs.Entries.{AreEntriesOf, logged}
 use Rattle.mount_sound.specs.Ledger.{AreWritesOf, Written, content, entries_in}
 use Rattle.mount_sound.proofs.Facts.{content_take, entries_take, length-content, take_less, writes_take}
-use Rattle.gathering.specs.Moments.{Dropping, Grows, IsSoundAt, Moment, Stood, landed, log_then}
-use Rattle.gathering.proofs.Facts.{entries_stay, front_slice, landed_whole, grows_refl, length-entries, stood_grows}
-use Rattle.gathering.proofs.Logs.Fronts.{log_slice}
+use Rattle.reader_laws.specs.Moments.{Dropping, Grows, IsSoundAt, Moment, Stood, landed, log_then}
+use Rattle.reader_laws.proofs.Gathered.Facts.{entries_stay, front_slice, landed_whole, grows_refl, length-entries, stood_grows}
+use Rattle.reader_laws.proofs.Gathered.Logs.Fronts.{log_slice}
 use Rattle.drain_copy.specs.declared.plan.Due.{Due}
 use Rattle.drain_copy.specs.Copying.{entries_part, entry_place}
 use Rattle.drain_sound.specs.Fronts.{dropping_in, index_there, log_there}

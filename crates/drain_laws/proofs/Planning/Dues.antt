@@ -10,7 +10,7 @@ use Rattle.container_layout.specs.declared.items.Item.TheVariants.{Index}
 use Rattle.container_layout.specs.Items.{IsItem}
 use Rattle.mount_sound.specs.Entries.{logged}
 use Rattle.mount_sound.proofs.Facts.{logged_take, take_less}
-use Rattle.gathering.proofs.Facts.{among_right}
+use Rattle.reader_laws.proofs.Gathered.Facts.{among_right}
 use Rattle.drain_read.specs.declared.held.Held.{Held}
 use Rattle.drain_read.specs.declared.held.Mirror.{Mirror}
 use Rattle.drain_read.specs.declared.read.WriterRead.{WriterRead}

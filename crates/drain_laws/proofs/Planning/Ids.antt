@@ -11,10 +11,10 @@ use Rattle.store_api.specs.declared.tree.Room.{Room}
 use Rattle.store_laws.specs.Files.{file_at}
 use Rattle.mount_model.specs.Paths.{index_path, mark_path}
 use Rattle.mount_model.specs.State.{id_of}
-use Rattle.mount_shape.specs.Marks.{IsMarkFile, IsOfMark}
-use Rattle.mount_shape.proofs.Facts.{item_drawn}
-use Rattle.gathering.specs.Moments.{IsSoundAt, Moment, Stood}
-use Rattle.gathering.proofs.Facts.{in_a_room, in_tree}
+use Rattle.mount_sound.specs.Marks.{IsMarkFile, IsOfMark}
+use Rattle.mount_sound.proofs.Shapes.Facts.{item_drawn}
+use Rattle.reader_laws.specs.Moments.{IsSoundAt, Moment, Stood}
+use Rattle.reader_laws.proofs.Gathered.Facts.{in_a_room, in_tree}
 use Rattle.drain_read.specs.declared.read.WriterRead.{WriterRead}
 use Rattle.drain_copy.specs.Planning.{is_same, mount_of, mounts_behind, mounts_of}
 use Rattle.drain_sound.specs.Fronts.{dropping_in}

@@ -6,7 +6,7 @@ use Rattle.store_api.specs.declared.tree.Tree.{Tree}
 use Rattle.mount_model.specs.Paths.{Name}
 use Rattle.mount_sound.specs.Ledger.{entries_in}
 use Rattle.index_reader.specs.Covered.{cover_of, or_nothing}
-use Rattle.gathering.specs.Moments.{Grows, IsSoundAt, Moment, Stood}
+use Rattle.reader_laws.specs.Moments.{Grows, IsSoundAt, Moment, Stood}
 use Rattle.reader_laws.specs.Covering.{cover_with, empty_cover}
 use Rattle.reader_laws.proofs.Faults.TailFails.{IsCoverOf}
 use Rattle.drain_read.specs.declared.held.Held.{Held}

@@ -24,9 +24,9 @@ use Rattle.mount_sound.specs.Ledger.{Written, entries_in}
 use Rattle.mount_sound.proofs.Facts.{logged_append}
 use Rattle.index_reader.specs.Covered.{cover_of, or_nothing}
 use Rattle.index_reader.specs.Found.{item_of}
-use Rattle.gathering.specs.Gathering.{IsPrefixOf}
-use Rattle.gathering.specs.Moments.{Dropping, Grows, IsSoundAt, Moment, Stood, landed}
-use Rattle.gathering.proofs.Facts.{any_found, entries_stay, grows_trans, landed_whole, stood_grows}
+use Rattle.reader_laws.specs.Gathering.{IsPrefixOf}
+use Rattle.reader_laws.specs.Moments.{Dropping, Grows, IsSoundAt, Moment, Stood, landed}
+use Rattle.reader_laws.proofs.Gathered.Facts.{any_found, entries_stay, grows_trans, landed_whole, stood_grows}
 use Rattle.reader_laws.specs.Covering.{cover_with, empty_cover}
 use Rattle.drain_read.specs.declared.held.Held.{Held}
 use Rattle.drain_read.specs.declared.held.Mirror.{Mirror}

@@ -18,7 +18,7 @@ use Rattle.mount_sound.specs.Items.{HasItem, HasMeta}
 use Rattle.mount_sound.specs.Ledger.{Written, entries_in}
 use Rattle.mount_sound.specs.Sound.{IsSoundTree}
 use Rattle.mount_sound.proofs.Facts.{entries_take, logged_take, take_less}
-use Rattle.gathering.proofs.Facts.{length-entries, length_taken}
+use Rattle.reader_laws.proofs.Gathered.Facts.{length-entries, length_taken}
 use Rattle.drain_laws.proofs.Copying.Mild.{IsKeptTo}
 
 module _ (t : Tree) (sound : IsSoundTree t) (k : ℕ) (room : Room) (there : slice_get t.rooms k ≡ Some room) (host other writer : ℕ) (meta : HasMeta room other writer) (bytes : List ℕ) (has : HasItem room (Index host writer) bytes)

@@ -23,11 +23,11 @@ use Rattle.mount_sound.specs.Owed.{IsLawful, StandsInRoom}
 use Rattle.mount_sound.specs.Recovered.{HasRecovered, IsSyncedWhole}
 use Rattle.mount_sound.specs.There.{landed_entries}
 use Rattle.mount_sound.proofs.Facts.{has_recovered, its_writers, one_tree, step_keeps_kept, take_less}
-use Rattle.flow.specs.declared.stuck.Stuck.TheVariants as stuck
-use Rattle.flow.specs.Running.{unbroken}
+use Rattle.mount_model.specs.declared.stuck.Stuck.TheVariants as stuck
+use Rattle.mount_model.specs.Running.{unbroken}
 use Rattle.recovery_laws.proofs.Facts.{AreLogged, HasFirst, Stays, in_log, logged_stays}
-use Rattle.gathering.specs.Moments.{Dropping, Grows, IsSoundAt, Moment, landed, moment_after, next_moment}
-use Rattle.gathering.proofs.Facts.{entries_stay, grows_after, in_a_room, in_tree, landed_at, landed_is_first, landed_whole, legal_first, legal_rest, length-entries, length_taken, moment-append, sound_after}
+use Rattle.reader_laws.specs.Moments.{Dropping, Grows, IsSoundAt, Moment, landed, moment_after, next_moment}
+use Rattle.reader_laws.proofs.Gathered.Facts.{entries_stay, grows_after, in_a_room, in_tree, landed_at, landed_is_first, landed_whole, legal_first, legal_rest, length-entries, length_taken, moment-append, sound_after}
 use Rattle.reader_laws.specs.Failing.{IsContainerAt}
 use Rattle.reader_laws.proofs.Facts.{container_later}
 use Rattle.drain_copy.specs.declared.outcome.DrainStuck.{DrainStuck}

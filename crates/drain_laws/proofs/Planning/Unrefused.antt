@@ -28,9 +28,9 @@ use Rattle.mount_model.proofs.Facts.{match_cases}
 use Rattle.mount_sound.specs.Owed.{IsLawful}
 use Rattle.mount_undamaged.specs.Damage.{ShowsNoDamage}
 use Rattle.mount_undamaged.proofs.Facts.{step_shows}
-use Rattle.flow.specs.declared.stuck.Stuck.TheVariants as stuck
-use Rattle.flow.specs.Running.{unbroken}
-use Rattle.gathering.specs.Moments.{IsSoundAt, Moment, file_in_room, file_told}
+use Rattle.mount_model.specs.declared.stuck.Stuck.TheVariants as stuck
+use Rattle.mount_model.specs.Running.{unbroken}
+use Rattle.reader_laws.specs.Moments.{IsSoundAt, Moment, file_in_room, file_told}
 use Rattle.reader_laws.specs.Failing.{IsContainerAt}
 use Rattle.reader_laws.proofs.Calls.Troubles.{answered}
 use Rattle.reader_laws.proofs.Soundness.LookEnds.{container_of}

@@ -32,18 +32,18 @@ use Rattle.mount_model.specs.Making.{MakesAct, UnlessRefused, room_check}
 use Rattle.mount_model.specs.Paths.{mark_path}
 use Rattle.mount_model.specs.Regular.{IsCounted, IsDrawn, IsOfSerial}
 use Rattle.mount_model.specs.State.{State, Table, last_id}
-use Rattle.mount_shape.specs.Marks.{IsMarksRoom, IsOfMark}
-use Rattle.mount_shape.specs.Container.{IsContainer, IsOfId}
-use Rattle.mount_shape.specs.Shape.{IsDrawnBy}
+use Rattle.mount_sound.specs.Marks.{IsMarksRoom, IsOfMark}
+use Rattle.mount_sound.specs.Container.{IsContainer, IsOfId}
+use Rattle.mount_sound.specs.Shape.{IsDrawnBy}
 use Rattle.mount_sound.specs.Owed.{IsLawful}
 use Rattle.mount_sound.specs.Sound.{IsSoundTree}
-use Rattle.flow.specs.declared.stuck.Stuck.{Stuck}
-use Rattle.flow.specs.declared.stuck.Stuck.TheVariants as stuck
-use Rattle.flow.specs.Replies.{Tries}
-use Rattle.flow.specs.Running.{Runs, asking, unbroken}
-use Rattle.story.specs.Program.{done, ask}
-use Rattle.story.proofs.Facts.{after_own}
-use Rattle.gathering.specs.Moments.{IsSoundAt, Moment, moment_after}
+use Rattle.mount_model.specs.declared.stuck.Stuck.{Stuck}
+use Rattle.mount_model.specs.declared.stuck.Stuck.TheVariants as stuck
+use Rattle.mount_model.specs.FlowReplies.{Tries}
+use Rattle.mount_model.specs.Running.{Runs, asking, unbroken}
+use Rattle.mount_model.specs.Program.{done, ask}
+use Rattle.mount_model.proofs.Stories.Facts.{after_own}
+use Rattle.reader_laws.specs.Moments.{IsSoundAt, Moment, moment_after}
 use Rattle.drain_copy.specs.Asking.{look_reply, look_step}
 use Rattle.mount_model.specs.Making.{Told}
 use Rattle.drain_laws.proofs.Driving.Passing.{Sees}

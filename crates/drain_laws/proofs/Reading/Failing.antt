@@ -5,10 +5,10 @@ use Rattle.std.specs.List.{AllByRecursion}
 use Rattle.plfs_types.specs.declared.entries.Trunc.{Trunc}
 use Rattle.mount_model.specs.History.{Event}
 use Rattle.mount_sound.specs.Owed.{IsLawful}
-use Rattle.flow.specs.declared.stuck.Stuck.{Stuck}
-use Rattle.flow.specs.Replies.{on_ok}
-use Rattle.flow.specs.Running.{Runs}
-use Rattle.flow.proofs.Facts.{runs_in_two}
+use Rattle.mount_model.specs.declared.stuck.Stuck.{Stuck}
+use Rattle.mount_model.specs.FlowReplies.{on_ok}
+use Rattle.mount_model.specs.Running.{Runs}
+use Rattle.mount_model.proofs.Flows.Facts.{runs_in_two}
 use Rattle.index_reader.specs.declared.entries.Tail.{Tail}
 use Rattle.index_reader.specs.declared.listing.Dropping.{Dropping as Listed}
 use Rattle.index_reader.specs.declared.listing.Listing.{Listing}
@@ -18,9 +18,9 @@ use Rattle.index_reader.specs.Packs.{no_tail}
 use Rattle.index_reader.specs.Tails.{tail_program}
 use Rattle.index_reader.specs.Truncs.{trunc_program}
 use Rattle.plfs_types.specs.Places.{IsAmong}
-use Rattle.gathering.specs.Moments.{Dropping, Grows, IsNamed, IsSoundAt, Moment, Stood, moment_after}
-use Rattle.gathering.specs.Seen.{calls_of}
-use Rattle.gathering.proofs.Facts.{all_at, among, follows, grows_after, grows_trans, legal_first, legal_rest, scan_finds, seen, sound_after, stood_grows}
+use Rattle.reader_laws.specs.Moments.{Dropping, Grows, IsNamed, IsSoundAt, Moment, Stood, moment_after}
+use Rattle.reader_laws.specs.Seen.{calls_of}
+use Rattle.reader_laws.proofs.Gathered.Facts.{all_at, among, follows, grows_after, grows_trans, legal_first, legal_rest, scan_finds, seen, sound_after, stood_grows}
 use Rattle.reader_laws.specs.Failing.{FailsByStore, IsContainerAt}
 use Rattle.reader_laws.specs.Listing.{AreListed}
 use Rattle.reader_laws.specs.Sharing.{in_room}

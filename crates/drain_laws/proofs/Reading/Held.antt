@@ -30,18 +30,18 @@ use Rattle.mount_sound.specs.Ledger.{entries_in}
 use Rattle.mount_sound.specs.Owed.{IsLawful}
 use Rattle.mount_sound.specs.There.{entries_there}
 use Rattle.mount_sound.proofs.Facts.{entries_take, logged_take, take_less}
-use Rattle.flow.specs.declared.names.Metadata.{Metadata}
-use Rattle.flow.specs.declared.stuck.Stuck.{Stuck}
-use Rattle.flow.specs.Listed.{known, told_by}
-use Rattle.flow.specs.Names.{meta_in}
-use Rattle.flow.specs.Replies.{Tries, given, on_ok, trouble}
-use Rattle.flow.proofs.Facts.{meta_in-found, meta_in-is}
-use Rattle.story.specs.Program.{done, ask, followed_by}
+use Rattle.mount_model.specs.declared.names.Metadata.{Metadata}
+use Rattle.mount_model.specs.declared.stuck.Stuck.{Stuck}
+use Rattle.mount_model.specs.FlowListed.{known, told_by}
+use Rattle.mount_model.specs.Names.{meta_in}
+use Rattle.mount_model.specs.FlowReplies.{Tries, given, on_ok, trouble}
+use Rattle.mount_model.proofs.Flows.Facts.{meta_in-found, meta_in-is}
+use Rattle.mount_model.specs.Program.{done, ask, followed_by}
 use Rattle.index_reader.specs.Replies.{log_length_in}
-use Rattle.gathering.specs.Gathering.{IsPrefixOf}
-use Rattle.gathering.specs.Moments.{Dropping, Grows, IsSoundAt, Moment, Stood, file_in_room, index_then, issued_by, landed, log_then, moment_after}
-use Rattle.gathering.proofs.Facts.{among_left, among_right, any_found, found_any, grows_after, landed_logged, landed_whole, legal_first, legal_rest, length-entries, length_taken, moment-append, sound_after}
-use Rattle.gathering.proofs.Containers.Entries.{file_named, named_file}
+use Rattle.reader_laws.specs.Gathering.{IsPrefixOf}
+use Rattle.reader_laws.specs.Moments.{Dropping, Grows, IsSoundAt, Moment, Stood, file_in_room, index_then, issued_by, landed, log_then, moment_after}
+use Rattle.reader_laws.proofs.Gathered.Facts.{among_left, among_right, any_found, found_any, grows_after, landed_logged, landed_whole, legal_first, legal_rest, length-entries, length_taken, moment-append, sound_after}
+use Rattle.reader_laws.proofs.Gathered.Containers.Entries.{file_named, named_file}
 use Rattle.reader_laws.specs.Covering.{cover_with, empty_cover}
 use Rattle.drain_copy.specs.Asking.{look_reply}
 use Rattle.mount_model.specs.Making.{Told}

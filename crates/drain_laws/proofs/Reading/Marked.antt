@@ -15,8 +15,8 @@ use Rattle.store_laws.proofs.Facts.{changed_room, create_cases, make_room_cases,
 use Rattle.mount_model.specs.Paths.{Name, mark_path}
 use Rattle.store_api.specs.Names.{marks_folder}
 use Rattle.store_api.specs.Names.{marks_name}
-use Rattle.mount_shape.specs.Marks.{IsMarksRoom}
-use Rattle.gathering.specs.Moments.{IsSoundAt, Moment}
+use Rattle.mount_sound.specs.Marks.{IsMarksRoom}
+use Rattle.reader_laws.specs.Moments.{IsSoundAt, Moment}
 use Rattle.drain_copy.specs.Telling.{roomed}
 use Rattle.drain_sound.specs.Fronts.{IsTarget}
 use Rattle.drain_sound.specs.Steps.{IsNamedRoom}

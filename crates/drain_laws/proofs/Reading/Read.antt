@@ -14,10 +14,10 @@ use Rattle.mount_model.specs.declared.call.Look.TheVariants.{List as ListFolder}
 use Rattle.mount_model.specs.History.{Event}
 use Rattle.mount_model.specs.Paths.{truncs as truncs_folder}
 use Rattle.mount_sound.specs.Owed.{IsLawful}
-use Rattle.flow.specs.declared.stuck.Stuck.{Stuck}
-use Rattle.flow.specs.Replies.{on_ok}
-use Rattle.flow.specs.Running.{Runs}
-use Rattle.flow.proofs.Facts.{runs_in_two}
+use Rattle.mount_model.specs.declared.stuck.Stuck.{Stuck}
+use Rattle.mount_model.specs.FlowReplies.{on_ok}
+use Rattle.mount_model.specs.Running.{Runs}
+use Rattle.mount_model.proofs.Flows.Facts.{runs_in_two}
 use Rattle.index_reader.specs.declared.entries.Tail.{Tail}
 use Rattle.index_reader.specs.declared.listing.Dropping.{Dropping as Listed}
 use Rattle.index_reader.specs.declared.listing.Listing.{Listing}
@@ -27,15 +27,15 @@ use Rattle.index_reader.specs.Opening.{no_flat, scan_program}
 use Rattle.index_reader.specs.Packs.{no_tail}
 use Rattle.index_reader.specs.Tails.{tail_program}
 use Rattle.index_reader.specs.Truncs.{trunc_program}
-use Rattle.gathering.specs.Gathering.{Gathered, Gathers, GathersIndex, IsPrefixOf}
-use Rattle.gathering.specs.Listing.{AreTruncsAt}
+use Rattle.reader_laws.specs.Gathering.{Gathered, Gathers, GathersIndex, IsPrefixOf}
+use Rattle.reader_laws.specs.GatheringListing.{AreTruncsAt}
 use Rattle.plfs_types.specs.Places.{IsAmong}
-use Rattle.gathering.specs.Moments.{Dropping, Grows, IsNamed, IsSoundAt, Moment, Stood, landed, moment_after}
-use Rattle.gathering.specs.Seen.{asked_in, calls_of}
-use Rattle.gathering.proofs.Facts.{all_at, among, any_found, entries_stay, found_any, grows_after, grows_trans, issued_grows, legal_first, legal_rest, moment-append, scan_finds, scan_found, seen, sound_after, stood_grows}
-use Rattle.gathering.proofs.Logs.Gathers.{gathers}
-use Rattle.gathering.proofs.Moments.Seeing.{seen_more, seen_waits}
-use Rattle.gathering.proofs.Containers.Truncates.{truncs_listed as truncs_stood}
+use Rattle.reader_laws.specs.Moments.{Dropping, Grows, IsNamed, IsSoundAt, Moment, Stood, landed, moment_after}
+use Rattle.reader_laws.specs.Seen.{asked_in, calls_of}
+use Rattle.reader_laws.proofs.Gathered.Facts.{all_at, among, any_found, entries_stay, found_any, grows_after, grows_trans, issued_grows, legal_first, legal_rest, moment-append, scan_finds, scan_found, seen, sound_after, stood_grows}
+use Rattle.reader_laws.proofs.Gathered.Logs.Gathers.{gathers}
+use Rattle.reader_laws.proofs.Gathered.Moments.Seeing.{seen_more, seen_waits}
+use Rattle.reader_laws.proofs.Gathered.Containers.Truncates.{truncs_listed as truncs_stood}
 use Rattle.reader_laws.specs.Covering.{cover_with}
 use Rattle.reader_laws.specs.Listing.{AreListed}
 use Rattle.reader_laws.specs.Sharing.{gathered_of, in_room}

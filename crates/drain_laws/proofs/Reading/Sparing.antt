@@ -7,10 +7,10 @@ use Rattle.index_entry.specs.Spelling.{entry_in}
 use Rattle.mount_model.specs.declared.call.Call.TheVariants.{Find, Look}
 use Rattle.mount_model.specs.declared.call.Look.TheVariants.{Top, List as ListFolder, Length, Read}
 use Rattle.mount_model.specs.Paths.{Name, index_path, log_path, truncs}
-use Rattle.flow.specs.declared.stuck.Stuck.{Stuck}
-use Rattle.flow.specs.Entries.{is_next}
-use Rattle.flow.specs.Replies.{Tries, bytes_in, given, names_in, on_ok}
-use Rattle.story.specs.Program.{done, ask, followed_by}
+use Rattle.mount_model.specs.declared.stuck.Stuck.{Stuck}
+use Rattle.mount_model.specs.Entries.{is_next}
+use Rattle.mount_model.specs.FlowReplies.{Tries, bytes_in, given, names_in, on_ok}
+use Rattle.mount_model.specs.Program.{done, ask, followed_by}
 use Rattle.index_reader.specs.declared.entries.Tail.{Tail}
 use Rattle.index_reader.specs.declared.listing.Dropping.{Dropping as Listed}
 use Rattle.index_reader.specs.declared.scanning.Scan.{Scan}
@@ -21,7 +21,7 @@ use Rattle.index_reader.specs.Packs.{no_tail}
 use Rattle.index_reader.specs.Replies.{log_length_in, number_in}
 use Rattle.index_reader.specs.Scanning.{nothing_found, scanned}
 use Rattle.index_reader.specs.Tails.{if_checked, if_logged, if_told, log_then, looked, reads, reads_left, tail_program}
-use Rattle.flow.specs.Entries.{next_read, reads_of}
+use Rattle.mount_model.specs.Entries.{next_read, reads_of}
 use Rattle.index_reader.specs.Tops.{top_shows}
 use Rattle.index_reader.specs.Truncs.{trunc_program, truncs_of}
 use Rattle.flat_format.specs.declared.flat.Flat.{Flat}

@@ -25,21 +25,21 @@ use Rattle.mount_model.specs.declared.reply.Reply.TheVariants.{NoMemory}
 use Rattle.mount_model.specs.History.{Event, state_after}
 use Rattle.mount_model.specs.Paths.{Name, access_path, index_path, log_path, metadata}
 use Rattle.mount_model.specs.State.{State}
-use Rattle.mount_shape.specs.Container.{IsContainer}
-use Rattle.mount_shape.specs.Marks.{IsOfMark}
+use Rattle.mount_sound.specs.Container.{IsContainer}
+use Rattle.mount_sound.specs.Marks.{IsOfMark}
 use Rattle.mount_sound.specs.Ledger.{entries_in}
-use Rattle.flow.specs.declared.names.Metadata.{Metadata}
-use Rattle.flow.specs.declared.stuck.Stuck.{Stuck}
-use Rattle.flow.specs.declared.stuck.Stuck.TheVariants as stuck
-use Rattle.flow.specs.Listed.{known, told_by}
-use Rattle.flow.specs.Names.{meta_in}
-use Rattle.flow.specs.Replies.{given, on_ok, trouble}
-use Rattle.flow.proofs.Facts.{meta_in-is}
+use Rattle.mount_model.specs.declared.names.Metadata.{Metadata}
+use Rattle.mount_model.specs.declared.stuck.Stuck.{Stuck}
+use Rattle.mount_model.specs.declared.stuck.Stuck.TheVariants as stuck
+use Rattle.mount_model.specs.FlowListed.{known, told_by}
+use Rattle.mount_model.specs.Names.{meta_in}
+use Rattle.mount_model.specs.FlowReplies.{given, on_ok, trouble}
+use Rattle.mount_model.proofs.Flows.Facts.{meta_in-is}
 use Rattle.index_reader.specs.declared.listing.Dropping.{Dropping as Listed}
 use Rattle.index_reader.specs.Replies.{log_length_in}
-use Rattle.gathering.specs.Moments.{Grows, IsSoundAt, Moment, Stood, file_in_room, moment_after}
-use Rattle.gathering.proofs.Facts.{all_at, any_found, follows, grows_refl}
-use Rattle.gathering.proofs.Containers.Entries.{named_file}
+use Rattle.reader_laws.specs.Moments.{Grows, IsSoundAt, Moment, Stood, file_in_room, moment_after}
+use Rattle.reader_laws.proofs.Gathered.Facts.{all_at, any_found, follows, grows_refl}
+use Rattle.reader_laws.proofs.Gathered.Containers.Entries.{named_file}
 use Rattle.reader_laws.specs.Failing.{FailsByStore, IsContainerAt}
 use Rattle.reader_laws.specs.Sharing.{in_room}
 use Rattle.reader_laws.proofs.Faults.TailFails.{IsCoverOf}

@@ -11,15 +11,15 @@ use Rattle.mount_model.specs.History.{Event}
 use Rattle.mount_sound.specs.Ledger.{Written, entries_in}
 use Rattle.mount_sound.specs.Owed.{IsLawful}
 use Rattle.mount_sound.proofs.Facts.{take_less}
-use Rattle.gathering.specs.Gathering.{Gathered, IsAdmissible}
-use Rattle.gathering.specs.Moments.{Dropping, HadTrunc, IsSoundAt, Moment, file_then, issued_by, landed, landed_by, moment_after}
-use Rattle.gathering.specs.Opening.{HasView}
-use Rattle.gathering.specs.View.{WritersRise, own_entries, writes_in}
+use Rattle.reader_laws.specs.Gathering.{Gathered, IsAdmissible}
+use Rattle.reader_laws.specs.Moments.{Dropping, HadTrunc, IsSoundAt, Moment, file_then, issued_by, landed, landed_by, moment_after}
+use Rattle.reader_laws.specs.GatheringOpening.{HasView}
+use Rattle.reader_laws.specs.View.{WritersRise, own_entries, writes_in}
 use Rattle.mount_sound.specs.Ledger.{change_of}
-use Rattle.gathering.proofs.Facts.{All-append, All-weaker, landed_is_first}
-use Rattle.gathering.proofs.Moments.Bounds.{truncs_above}
-use Rattle.gathering.proofs.Moments.Stepping.{IsAboveThen}
-use Rattle.gathering.proofs.OpenReaders.Viewing.{All-take, entries_split}
+use Rattle.reader_laws.proofs.Gathered.Facts.{All-append, All-weaker, landed_is_first}
+use Rattle.reader_laws.proofs.Gathered.Moments.Bounds.{truncs_above}
+use Rattle.reader_laws.proofs.Gathered.Moments.Stepping.{IsAboveThen}
+use Rattle.reader_laws.proofs.Gathered.OpenReaders.Viewing.{All-take, entries_split}
 use Rattle.plfs_types.specs.Places.{IsAmong}
 use Rattle.headline.specs.Views.{stamp_of}
 

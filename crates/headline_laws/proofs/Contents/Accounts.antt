@@ -19,11 +19,11 @@ use Rattle.mount_sound.specs.Issued.{issued_after, written_by}
 use Rattle.mount_sound.specs.Kept.{IsKept}
 use Rattle.mount_sound.specs.Ledger.{Written as Entry, entries_in}
 use Rattle.mount_sound.specs.Owed.{IsLawful}
-use Rattle.flow.specs.Running.{unbroken}
+use Rattle.mount_model.specs.Running.{unbroken}
 use Rattle.writer_laws.specs.Counting.{writes_told}
-use Rattle.gathering.specs.Moments.{Dropping, IsSoundAt, Moment, moment_after}
+use Rattle.reader_laws.specs.Moments.{Dropping, IsSoundAt, Moment, moment_after}
 use Rattle.mount_sound.specs.Ledger.{change_of}
-use Rattle.gathering.proofs.Facts.{among, any_found, legal_first, legal_rest, moment-append, sound_after}
+use Rattle.reader_laws.proofs.Gathered.Facts.{among, any_found, legal_first, legal_rest, moment-append, sound_after}
 use Rattle.script_lang.specs.Ranges.{FitsScript}
 use Rattle.script_lang.specs.declared.line.Outcome.{Outcome}
 use Rattle.script_lang.specs.declared.line.Outcome.TheVariants as line
@@ -33,9 +33,9 @@ use Rattle.script_lang.specs.declared.script.Statement.TheVariants as say
 use Rattle.outcomes.specs.Data.{bytes_of}
 use Rattle.actor_core.specs.declared.kept.Kept.{Kept}
 use Rattle.run_core.specs.Play.{IsRight}
-use Rattle.play_laws.specs.OneFile.{OneFile}
-use Rattle.play_laws.specs.OneWriter.{OneWriter, WritesOnce, one_more as and_one}
-use Rattle.play_laws.proofs.Facts.{Next}
+use Rattle.headline_laws.specs.OneFile.{OneFile}
+use Rattle.headline_laws.specs.OneWriter.{OneWriter, WritesOnce, one_more as and_one}
+use Rattle.headline_laws.proofs.Plays.Facts.{Next}
 use Rattle.headline.specs.Run.{Run, Says, Told, before, own, told}
 use Rattle.headline.specs.Writers.{Account, account, account_of, cap_of, made_room, nothing, one_more as write_more, told_of}
 use Rattle.headline_laws.proofs.OrderlyLines.Places.{own_split}

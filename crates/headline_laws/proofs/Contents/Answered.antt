@@ -21,12 +21,12 @@ use Rattle.mount_model.specs.State.{State}
 use Rattle.mount_sound.specs.Ledger.{entries_in}
 use Rattle.mount_sound.specs.Owed.{IsLawful}
 use Rattle.mount_sound.specs.Sound.{IsSoundTree}
-use Rattle.gathering.specs.Moments.{HadTrunc, IsSoundAt, Moment, file_told, moment_after}
-use Rattle.gathering.specs.Opening.{HasView}
-use Rattle.gathering.specs.View.{WritersRise, changes_in, cut_off, writes_in}
+use Rattle.reader_laws.specs.Moments.{HadTrunc, IsSoundAt, Moment, file_told, moment_after}
+use Rattle.reader_laws.specs.GatheringOpening.{HasView}
+use Rattle.reader_laws.specs.View.{WritersRise, changes_in, cut_off, writes_in}
 use Rattle.mount_sound.specs.Ledger.{change_of}
-use Rattle.gathering.proofs.Facts.{All-weaker, among, legal_first, legal_rest, moment-append, sound_after}
-use Rattle.gathering.proofs.OpenReaders.Viewing.{entries_of-changes, truncs_of-changes}
+use Rattle.reader_laws.proofs.Gathered.Facts.{All-weaker, among, legal_first, legal_rest, moment-append, sound_after}
+use Rattle.reader_laws.proofs.Gathered.OpenReaders.Viewing.{entries_of-changes, truncs_of-changes}
 use Rattle.script_lang.specs.Ranges.{FitsScript}
 use Rattle.script_lang.specs.declared.line.Outcome.TheVariants as line
 use Rattle.script_lang.specs.declared.script.Statement.{Statement}
@@ -34,10 +34,10 @@ use Rattle.script_lang.specs.declared.script.Statement.TheVariants.{Map}
 use Rattle.actor_core.specs.declared.kept.Kept.{Kept}
 use Rattle.actor_core.specs.Endings.{Ending}
 use Rattle.run_core.specs.Play.{IsRight}
-use Rattle.play_laws.specs.OneFile.{ArePiecesSeen, OneFile}
-use Rattle.play_laws.specs.OneWriter.{OneWriter}
-use Rattle.play_laws.specs.Showing.{TellsOneFile}
-use Rattle.play_laws.proofs.Facts.{Next}
+use Rattle.headline_laws.specs.OneFile.{ArePiecesSeen, OneFile}
+use Rattle.headline_laws.specs.OneWriter.{OneWriter}
+use Rattle.headline_laws.specs.Showing.{TellsOneFile}
+use Rattle.headline_laws.proofs.Plays.Facts.{Next}
 use Rattle.headline.specs.Run.{IsLine, Run, Says, Told, before, own, phased, told}
 use Rattle.plfs_types.specs.Places.{IsAmong}
 use Rattle.headline.specs.Trees.{Has}

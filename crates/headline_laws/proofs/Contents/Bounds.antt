@@ -1,4 +1,4 @@
--- Each count of a line that shows a file lies between what the lines make sure to have landed and what they allow.
+-- Each count of a line that counts what had landed in its part lies between what the lines make sure to have landed and what they allow.
 use Rattle.std.proofs.Common.{◌≡◌, ◌⊎◌, ◌≤◌, ◌+◌, inl, inr, ℕ, Bool, true, false, nat_eq, List, [], ◌∷◌, ◌++◌, length, Option, Some, None, refl, sym, ap, ◌∙◌, subst, arith, append_assoc, length-append}
 use Rattle.std.specs.Prelude.{slice_get}
 use Rattle.std.specs.List.{AllByRecursion}
@@ -11,14 +11,14 @@ use Rattle.mount_model.specs.History.{Event}
 use Rattle.mount_model.specs.Mounting.{IsMounted}
 use Rattle.mount_model.specs.State.{State}
 use Rattle.mount_sound.specs.Sound.{IsSoundTree}
-use Rattle.gathering.specs.Moments.{Dropping, IsSoundAt, Moment, Stood, landed, moment_after}
-use Rattle.gathering.proofs.Facts.{among}
+use Rattle.reader_laws.specs.Moments.{Dropping, IsSoundAt, Moment, Stood, landed, moment_after}
+use Rattle.reader_laws.proofs.Gathered.Facts.{among}
 use Rattle.plain_file.proofs.Facts.{Among}
 use Rattle.script_lang.specs.Ranges.{FitsScript}
 use Rattle.script_lang.specs.declared.line.Outcome.TheVariants as line
 use Rattle.actor_core.specs.Statements.{work_of}
 use Rattle.run_core.specs.Play.{IsRight}
-use Rattle.play_laws.proofs.Facts.{Next}
+use Rattle.headline_laws.proofs.Plays.Facts.{Next}
 use Rattle.headline.specs.Run.{IsLine, Run, Says, Told, before, own, so_far, told}
 use Rattle.headline.specs.Files.{reader_after, reader_at, reader_next}
 use Rattle.headline.specs.Changes.{Writing, none as no_writing, writing_after, writing_at, writing_next}
@@ -36,11 +36,10 @@ use Rattle.headline_laws.proofs.Story.Lines.{AnyLine, ChainOf, HasRooms, chain_o
 use Rattle.headline_laws.proofs.Story.Ordered.{Front, all_own, begun_are, begun_first, begun_own, begun_phases, has_begun}
 use Rattle.headline_laws.proofs.Story.Parts.{begins, begins_rise}
 use Rattle.headline_laws.proofs.Story.Shown.{ShownEach}
-use Rattle.headline_laws.proofs.Trees.Sights.{Sees}
 use Rattle.headline_laws.proofs.Contents.FirstOpen.{FirstOpen, OpensNot, account_more, all_first, all_rest, first_open, none_told}
 use Rattle.headline_laws.proofs.Contents.OpenedWriter.{Behind as Behind_of, Chain as Chain_of, First as First_of, Home as Home_of, Opening as Opening_of, account_is as account_is_of, chain_as as chain_as_of, go as go_of, its as its_of, none_before as none_before_of, opening, sound_first as sound_first_of, started as started_of}
 use Rattle.headline_laws.proofs.Contents.Least.{least_holds}
-use Rattle.headline_laws.proofs.Contents.LineBounds.{BoundedLine as BoundedLine_of, bounded_line as bounded_line_of}
+use Rattle.headline_laws.proofs.Contents.LineBounds.{BoundedLine as BoundedLine_of}
 
 module _ (run : Run) (times : Option (List ℕ)) (mount : Stored) (start end : State) (fits : FitsScript run.script) (mounted : IsMounted 0 times mount start) (tells : mount.tree ≡ Some run.before) (sound : IsSoundTree run.before)
     (right : IsRight run.script start run.lines end) (left : end.store.tree ≡ Some run.after) where
@@ -62,16 +61,14 @@ module _ (run : Run) (times : Option (List ℕ)) (mount : Stored) (start end : S
   abbrev Opening : (actor : ℕ) → ChainOf run First end fits sound_first right actor → ℕ → ℕ → List Told → List Event → Type 0
   Opening actor c id phase post done = Opening_of run times mount start end fits mounted tells sound right left actor c id phase post done
 
-  module _ (t : Told) (cut : List WriterCount) (truncs : List Trunc) (is_line : IsLine run t) (opens_none : (other : ℕ) → t.outcome ≡ line.Opened other → ⊥) (sees : Sees run First end fits sound_first right t cut truncs) where
+  module _ (t : Told) (cut : List WriterCount) (truncs : List Trunc) (is_line : IsLine run t) (opens_none : (other : ℕ) → t.outcome ≡ line.Opened other → ⊥) where
     abbrev BoundedLine : Dropping → List Event → List Event → Type 0
     BoundedLine d earlier mine = BoundedLine_of run times mount start end fits mounted tells sound right left t cut truncs d earlier mine
 
-    bounded_line : (r : Option Told) (w : Writing) (l : AnyLine run First end fits sound_first right r w t) → (d : Dropping) → Stood Last d → d.room ≡ Home t → BoundedLine d l.line.part.earlier l.line.part.mine
-    bounded_line r w l d stood home = bounded_line_of run times mount start end fits mounted tells sound right left t cut truncs r w l (sees r w l) d stood home
-
     -- ---- one writer of the container
 
-    module _ (o : Told) (id : ℕ) (opened : Says run o (line.Opened id)) (home : Home o ≡ Home t) where
+    module _ (o : Told) (id : ℕ) (opened : Says run o (line.Opened id)) (home : Home o ≡ Home t)
+        (bounded : (r : Option Told) (w : Writing) (l : AnyLine run First end fits sound_first right r w t) (d : Dropping) → Stood Last d → d.room ≡ Home t → d.writer ≡ id → BoundedLine d l.line.part.earlier l.line.part.mine) where
       -- which one it is
       record ItsDropping (d : Dropping) : Type 0 where
         pub stood : Stood Last d
@@ -134,7 +131,7 @@ module _ (run : Run) (times : Option (List ℕ)) (mount : Stored) (start end : S
           its_d = its fo.o.phase fo.post [] b
 
           line_is : BoundedLine b.d l.line.part.earlier l.line.part.mine
-          line_is = bounded_line (reader_at run t) (writing_at run t) l b.d its_d.stood its_d.room
+          line_is = bounded (reader_at run t) (writing_at run t) l b.d its_d.stood its_d.room b.its_id
 
           abbrev its_end : List Event
           its_end = l.line.part.earlier ++ l.line.part.mine
@@ -234,7 +231,7 @@ module _ (run : Run) (times : Option (List ℕ)) (mount : Stored) (start end : S
                   }
 
                   line_is : BoundedLine b_own.d p.earlier p.mine
-                  line_is = bounded_line (reader_after b_own.reader u) (writing_after b_own.writing u) its_line b_own.d its_d.stood its_d.room
+                  line_is = bounded (reader_after b_own.reader u) (writing_after b_own.writing u) its_line b_own.d its_d.stood its_d.room b_own.its_id
 
                   split_so : right.history ≡ (p.earlier ++ p.mine) ++ p.later
                   split_so = p.split ∙ sym (append_assoc p.earlier p.mine p.later)
@@ -284,7 +281,7 @@ module _ (run : Run) (times : Option (List ℕ)) (mount : Stored) (start end : S
                     opened_then : Opening t.actor c id fo.o.phase fo.post ends → counted_in id cut ≤ 0
                     opened_then b =
                         let its_d = its t.actor c fo.o.phase fo.post ends b in
-                        let line_is = bounded_line (reader_after None Earlier) (writing_after no_writing Earlier) its_line b.d its_d.stood its_d.room in
+                        let line_is = bounded (reader_after None Earlier) (writing_after no_writing Earlier) its_line b.d its_d.stood its_d.room b.its_id in
                         let long = length-append l.part.earlier l.part.mine in
                         let high = line_is.high ends l.part.later split_so (omega (arith, long)) in
                         let zero_is = none_before t.actor c fo.o.phase fo.post ends b ends l.part.later split_so b.behind in
@@ -334,6 +331,7 @@ module _ (run : Run) (times : Option (List ℕ)) (mount : Stored) (start end : S
       -- The law of this file: it lies between what is sure and what may be.
       pub opened_between : run.in_order ≡ false → ((account run o.actor id (before run t)).least ≤ counted_in id cut) × At_most o.actor
       opened_between free = (
-        least_holds run times mount start end fits mounted tells sound right left (λ w many. many ≤ counted_in w cut) (λ w fewer many le all. omega (arith, le, all)) (λ w. omega arith) t is_line (λ r w l d stood home_is x xs is short. (bounded_line r w l d stood home_is).low x xs is short) o id opened home free,
+        least_holds run times mount start end fits mounted tells sound right left (λ w many. w ≡ id → many ≤ counted_in w cut) (λ w fewer many le all is. (let few = all is in omega (arith, le, few))) (λ w is. omega arith) t is_line
+            (λ r w l d stood home_is x xs is short its_id. (bounded r w l d stood home_is its_id).low x xs is short) o id opened home free refl,
         most_counted free,
       )

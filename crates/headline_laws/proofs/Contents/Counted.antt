@@ -25,15 +25,15 @@ use Rattle.mount_sound.specs.Entries.{logged}
 use Rattle.mount_sound.specs.Ledger.{Written, entries_in}
 use Rattle.mount_sound.specs.Sound.{IsSoundTree}
 use Rattle.mount_sound.proofs.Facts.{mounted_sound}
-use Rattle.gathering.specs.Gathering.{Gathered, IsAdmissible}
-use Rattle.gathering.specs.Moments.{Dropping, IsSoundAt, Moment, file_in_room, issued_by, moment_after}
-use Rattle.gathering.specs.View.{WritersRise, own_entries, writes_in}
+use Rattle.reader_laws.specs.Gathering.{Gathered, IsAdmissible}
+use Rattle.reader_laws.specs.Moments.{Dropping, IsSoundAt, Moment, file_in_room, issued_by, moment_after}
+use Rattle.reader_laws.specs.View.{WritersRise, own_entries, writes_in}
 use Rattle.mount_sound.specs.Ledger.{change_of}
-use Rattle.gathering.proofs.Facts.{length-entries, sound_after}
+use Rattle.reader_laws.proofs.Gathered.Facts.{length-entries, sound_after}
 use Rattle.script_lang.specs.Ranges.{FitsScript}
 use Rattle.script_lang.specs.declared.line.Outcome.TheVariants as line
 use Rattle.run_core.specs.Play.{IsRight}
-use Rattle.play_laws.specs.OneFile.{printed_cut}
+use Rattle.headline_laws.specs.OneFile.{printed_cut}
 use Rattle.headline.specs.Run.{Run, Says, Told, before, so_far, told}
 use Rattle.headline.specs.Trees.{Has}
 use Rattle.headline.specs.Writers.{Writer, new_writer, old_writer}
@@ -160,7 +160,7 @@ module _ (run : Run) (times : Option (List ℕ)) (mount : Stored) (start end : S
     pub shares : shares_seen moment cut ≡ map shared seen
 
   module _ (t : Told) (moment : Moment) (es rest : List Event) (is : right.history ≡ es ++ rest) (moment_is : moment ≡ moment_after Begin es) where
-    whole_of : (g : Gathered) → g.dropping.room ≡ homes.of t → 1 ≤ g.count → g.count ≤ length (issued_by moment g.dropping) → Whole t g.dropping.writer
+    pub whole_of : (g : Gathered) → g.dropping.room ≡ homes.of t → 1 ≤ g.count → g.count ≤ length (issued_by moment g.dropping) → Whole t g.dropping.writer
     whole_of g room some few = by_issued (sound.issued (homes.of t) g.dropping.writer) refl
       where
         by_issued : (ws : List Written) → sound.issued (homes.of t) g.dropping.writer ≡ ws → Whole t g.dropping.writer

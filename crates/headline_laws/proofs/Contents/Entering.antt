@@ -3,9 +3,9 @@ use Rattle.std.proofs.Common.{◌≡◌, ℕ, List, [], ◌∷◌, ◌++◌, sym
 use Rattle.mount_model.specs.declared.reply.Reply.TheVariants.{Entered}
 use Rattle.mount_model.specs.History.{Event}
 use Rattle.mount_sound.specs.Owed.{IsLawful}
-use Rattle.gathering.specs.Moments.{Dropping, IsSoundAt, Moment, moment_after}
-use Rattle.gathering.proofs.Facts.{legal_first, legal_rest, sound_after}
-use Rattle.play_laws.specs.OneWriter.{OneWriter, OpensOneWriter}
+use Rattle.reader_laws.specs.Moments.{Dropping, IsSoundAt, Moment, moment_after}
+use Rattle.reader_laws.proofs.Gathered.Facts.{legal_first, legal_rest, sound_after}
+use Rattle.headline_laws.specs.OneWriter.{OneWriter, OpensOneWriter}
 use Rattle.headline.specs.Run.{before}
 use Rattle.headline_laws.proofs.Statements.Known.{HasEntered}
 use Rattle.headline_laws.proofs.Story.Entered.{later_entered, not_again}

@@ -15,7 +15,7 @@ use Rattle.mount_sound.specs.Issued.{issued_after, noted_by, written_by}
 use Rattle.mount_sound.specs.Ledger.{Ledger, Written}
 use Rattle.writer_laws.specs.Counting.{wrote_by, writes_told}
 use Rattle.writer_laws.proofs.Facts.{writes_both}
-use Rattle.gathering.specs.Moments.{Moment, moment_after, next_moment}
+use Rattle.reader_laws.specs.Moments.{Moment, moment_after, next_moment}
 use Rattle.headline_laws.proofs.Story.Attributed.{either_part}
 
 -- ---- one call

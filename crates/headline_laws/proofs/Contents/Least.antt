@@ -9,12 +9,12 @@ use Rattle.mount_model.specs.Mounting.{IsMounted}
 use Rattle.mount_model.specs.State.{State}
 use Rattle.mount_sound.specs.Sound.{IsSoundTree}
 use Rattle.plain_file.proofs.Facts.{Among}
-use Rattle.gathering.specs.Moments.{Dropping, IsSoundAt, Moment, Stood, landed, moment_after}
-use Rattle.gathering.proofs.Facts.{among}
+use Rattle.reader_laws.specs.Moments.{Dropping, IsSoundAt, Moment, Stood, landed, moment_after}
+use Rattle.reader_laws.proofs.Gathered.Facts.{among}
 use Rattle.script_lang.specs.Ranges.{FitsScript}
 use Rattle.script_lang.specs.declared.line.Outcome.TheVariants as line
 use Rattle.run_core.specs.Play.{IsRight}
-use Rattle.play_laws.proofs.Facts.{Next}
+use Rattle.headline_laws.proofs.Plays.Facts.{Next}
 use Rattle.headline.specs.Run.{IsLine, Run, Says, Told, before, own, surely_before, told}
 use Rattle.headline.specs.Files.{reader_after, reader_at}
 use Rattle.headline.specs.Changes.{Writing, writing_after, writing_at}

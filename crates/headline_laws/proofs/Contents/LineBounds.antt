@@ -7,14 +7,14 @@ use Rattle.mount_model.specs.History.{Event}
 use Rattle.mount_model.specs.Mounting.{IsMounted}
 use Rattle.mount_model.specs.State.{State}
 use Rattle.mount_sound.specs.Sound.{IsSoundTree}
-use Rattle.gathering.specs.Gathering.{Gathered}
-use Rattle.gathering.specs.Moments.{Dropping, IsSoundAt, Moment, Stood, landed, moment_after}
-use Rattle.gathering.specs.View.{WritersRise}
-use Rattle.gathering.proofs.Facts.{prefix_of}
+use Rattle.reader_laws.specs.Gathering.{Gathered}
+use Rattle.reader_laws.specs.Moments.{Dropping, IsSoundAt, Moment, Stood, landed, moment_after}
+use Rattle.reader_laws.specs.View.{WritersRise}
+use Rattle.reader_laws.proofs.Gathered.Facts.{prefix_of}
 use Rattle.plain_file.proofs.Facts.{Among}
 use Rattle.script_lang.specs.Ranges.{FitsScript}
 use Rattle.run_core.specs.Play.{IsRight}
-use Rattle.play_laws.proofs.Facts.{Next}
+use Rattle.headline_laws.proofs.Plays.Facts.{Next}
 use Rattle.headline.specs.Run.{Run, Told}
 use Rattle.headline.specs.Changes.{Writing}
 use Rattle.headline_laws.proofs.Landed.Counting.{count_between, counted_in}

@@ -12,15 +12,15 @@ use Rattle.mount_model.specs.State.{State}
 use Rattle.mount_sound.specs.Dropping.{IsWriter as IsWriterOf}
 use Rattle.mount_sound.specs.Items.{HasItemOf}
 use Rattle.mount_sound.specs.Sound.{IsSoundTree}
-use Rattle.gathering.specs.Moments.{Dropping, IsNamed, IsSoundAt, Moment, Stood, file_told, issued_by, landed, moment_after}
-use Rattle.gathering.proofs.Facts.{in_a_room, landed_whole, sound_after}
+use Rattle.reader_laws.specs.Moments.{Dropping, IsNamed, IsSoundAt, Moment, Stood, file_told, issued_by, landed, moment_after}
+use Rattle.reader_laws.proofs.Gathered.Facts.{in_a_room, landed_whole, sound_after}
 use Rattle.script_lang.specs.Ranges.{FitsScript}
 use Rattle.script_lang.specs.declared.line.Outcome.TheVariants as line
 use Rattle.actor_core.specs.declared.kept.Kept.{Kept}
 use Rattle.run_core.specs.Play.{IsRight}
-use Rattle.play_laws.specs.OneFile.{OneFile}
-use Rattle.play_laws.specs.OneWriter.{OneWriter}
-use Rattle.play_laws.proofs.Facts.{Next}
+use Rattle.headline_laws.specs.OneFile.{OneFile}
+use Rattle.headline_laws.specs.OneWriter.{OneWriter}
+use Rattle.headline_laws.proofs.Plays.Facts.{Next}
 use Rattle.headline.specs.Run.{Run, Says, Told, own, told}
 use Rattle.headline.specs.Files.{reader_after, reader_next}
 use Rattle.headline.specs.Changes.{Writing, none as no_writing, writing_after, writing_next}

@@ -15,13 +15,13 @@ use Rattle.mount_sound.specs.Ledger.{Written, entries_in}
 use Rattle.mount_sound.specs.Sound.{IsSoundTree}
 use Rattle.attr_flow.specs.Shares.{stored_in}
 use Rattle.look_laws.specs.Shares.{shares_seen}
-use Rattle.gathering.specs.Gathering.{Gathered, IsAdmissible}
-use Rattle.gathering.specs.Moments.{IsSoundAt, Moment, issued_by, moment_after}
-use Rattle.gathering.specs.View.{WritersRise, own_entries}
-use Rattle.gathering.proofs.Facts.{length-entries, sound_after}
+use Rattle.reader_laws.specs.Gathering.{Gathered, IsAdmissible}
+use Rattle.reader_laws.specs.Moments.{IsSoundAt, Moment, issued_by, moment_after}
+use Rattle.reader_laws.specs.View.{WritersRise, own_entries}
+use Rattle.reader_laws.proofs.Gathered.Facts.{length-entries, sound_after}
 use Rattle.script_lang.specs.Ranges.{FitsScript}
 use Rattle.run_core.specs.Play.{IsRight}
-use Rattle.play_laws.specs.OneFile.{printed_cut}
+use Rattle.headline_laws.specs.OneFile.{printed_cut}
 use Rattle.headline.specs.Run.{Run}
 use Rattle.headline.specs.Views.{Seen, shared, writes_of}
 use Rattle.headline_laws.proofs.Contents.Amounts.{HaveSome, count_for, front_counted, have_some, some_logged, stored_both}

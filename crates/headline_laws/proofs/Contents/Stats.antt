@@ -1,12 +1,11 @@
 -- A line that tells of a file tells of one plain file, of the first writes that lines tell of each writer.
-use Rattle.std.proofs.Common.{◌≡◌, ◌⊎◌, ◌≤◌, ◌<◌, ℕ, false, List, [], ◌∷◌, ◌++◌, length, map, Option, Some, refl, sym, ap, ◌∙◌, subst}
+use Rattle.std.proofs.Common.{◌≡◌, ◌⊎◌, ◌≤◌, ◌<◌, ℕ, false, List, [], ◌++◌, length, map, Option, Some, refl, sym, ap, ◌∙◌, subst}
 use Rattle.std.specs.Prelude.{get_or}
 use Rattle.std.specs.List.{All}
 use Rattle.std.proofs.lemmas.List.Elements.{All-from_recursion}
 use Rattle.plfs_types.specs.declared.entries.ShareBytes.{ShareBytes}
 use Rattle.plfs_types.specs.declared.entries.Trunc.{Trunc}
 use Rattle.plfs_types.specs.declared.entries.WriterCount.{WriterCount}
-use Rattle.plain_file.specs.declared.changes.Change.{Change}
 use Rattle.plain_file.specs.declared.changes.Change.TheVariants.{Truncate}
 use Rattle.plain_file.specs.File.{plain_size}
 use Rattle.container_layout.specs.Items.{IsItem}
@@ -17,15 +16,15 @@ use Rattle.mount_model.specs.Mounting.{IsMounted}
 use Rattle.mount_model.specs.State.{State}
 use Rattle.mount_sound.specs.Sound.{IsSoundTree}
 use Rattle.attr_flow.specs.Shares.{stored_in}
-use Rattle.gathering.specs.Moments.{HadItem, IsSoundAt, Moment, moment_after}
-use Rattle.gathering.specs.View.{WritersRise, changes_in, cut_off, writes_in}
+use Rattle.reader_laws.specs.Moments.{HadItem, IsSoundAt, Moment, moment_after}
+use Rattle.reader_laws.specs.View.{WritersRise, changes_in, cut_off, writes_in}
 use Rattle.mount_sound.specs.Ledger.{change_of}
-use Rattle.gathering.proofs.Facts.{All-weaker}
+use Rattle.reader_laws.proofs.Gathered.Facts.{All-weaker}
 use Rattle.script_lang.specs.Ranges.{FitsScript}
 use Rattle.script_lang.specs.declared.line.Outcome.TheVariants as line
 use Rattle.run_core.specs.Play.{IsRight}
-use Rattle.play_laws.specs.OneFile.{printed_cut}
-use Rattle.play_laws.specs.Telling.{TellsOfFile}
+use Rattle.headline_laws.specs.OneFile.{printed_cut}
+use Rattle.headline_laws.specs.Telling.{TellsOfFile}
 use Rattle.headline.specs.Run.{Run, Says, Told}
 use Rattle.plfs_types.specs.Places.{IsAmong}
 use Rattle.headline.specs.Trees.{Has}

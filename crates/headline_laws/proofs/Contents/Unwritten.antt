@@ -2,14 +2,14 @@
 use Rattle.std.proofs.Common.{◌≡◌, ◌⊎◌, inl, inr, ℕ, Bool, true, false, nat_eq, nat_le, List, [], ◌∷◌, ◌++◌, length, Option, Some, None, sym, ap, ◌∙◌, subst, if◌then◌else◌}
 use Rattle.std.specs.Prelude.{⊤}
 use Rattle.turn_object.specs.Callers.{made_by}
-use Rattle.story.specs.Process.{asks, ends, pauses, shares, tells}
+use Rattle.mount_model.specs.Process.{asks, ends, pauses, shares, tells}
 use Rattle.mount_model.specs.declared.call.Ask.{Ask}
 use Rattle.mount_model.specs.declared.call.Call.{Call}
 use Rattle.mount_model.specs.declared.call.Call.TheVariants.{Exit, Greet, Write}
 use Rattle.mount_model.specs.declared.reply.Reply.{Reply}
 use Rattle.mount_model.specs.declared.reply.Reply.TheVariants as reply
 use Rattle.mount_model.specs.History.{Event}
-use Rattle.flow.specs.Running.{unbroken}
+use Rattle.mount_model.specs.Running.{unbroken}
 use Rattle.script_lang.specs.declared.line.Outcome.TheVariants as line
 use Rattle.script_lang.specs.declared.line.Why.TheVariants.{NotOpen}
 use Rattle.script_lang.specs.declared.script.Data.{Data}
@@ -27,7 +27,7 @@ use Rattle.actor_core.specs.Statements.{disarmed, does, greeted, greeted_work, w
 use Rattle.actor_core.specs.Stopping.{carried, is_due, one_nearer, stoppable}
 use Rattle.actor_core.specs.Work.{Work, finishes}
 use Rattle.actor_core.specs.Writers.{writes as writes_statement, writes_bytes}
-use Rattle.play_laws.proofs.Facts.{Anyhow, ComesTo, GoesSo}
+use Rattle.headline_laws.proofs.Plays.Facts.{Anyhow, ComesTo, GoesSo}
 use Rattle.headline_laws.proofs.Statements.Ends.{EndsAs}
 use Rattle.headline_laws.proofs.Statements.Hosts.{comes_so}
 use Rattle.headline_laws.proofs.Story.Attributed.{either_part, head_of, none_there, tail_of}

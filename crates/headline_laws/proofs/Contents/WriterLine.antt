@@ -2,7 +2,7 @@
 use Rattle.std.proofs.Common.{◌≡◌, ◌⊎◌, inl, inr, ℕ, Option, Some, None, refl, subst}
 use Rattle.std.specs.Prelude.{⊤}
 use Rattle.writer_laws.specs.Counting.{writes_told}
-use Rattle.gathering.specs.Moments.{Moment}
+use Rattle.reader_laws.specs.Moments.{Moment}
 use Rattle.script_lang.specs.declared.line.Outcome.{Outcome}
 use Rattle.script_lang.specs.declared.line.Outcome.TheVariants as line
 use Rattle.script_lang.specs.declared.line.Why.{Why}
@@ -10,10 +10,10 @@ use Rattle.script_lang.specs.declared.script.Data.{Data}
 use Rattle.script_lang.specs.declared.script.Statement.{Statement}
 use Rattle.script_lang.specs.declared.script.Statement.TheVariants as say
 use Rattle.outcomes.specs.Data.{bytes_of}
-use Rattle.play_laws.specs.Ending.{DoesNothing}
-use Rattle.play_laws.specs.OneWriter.{OneWriter, WritesOnce, one_more as and_one}
-use Rattle.play_laws.specs.Opening.{Stretch}
-use Rattle.play_laws.specs.Writing.{ShowsWriting}
+use Rattle.headline_laws.specs.Ending.{DoesNothing}
+use Rattle.headline_laws.specs.OneWriter.{OneWriter, WritesOnce, one_more as and_one}
+use Rattle.headline_laws.specs.Opening.{Stretch}
+use Rattle.headline_laws.specs.Writing.{ShowsWriting}
 use Rattle.headline_laws.proofs.OrderlyLines.Synced.{IsOther}
 use Rattle.headline_laws.proofs.Statements.Known.{IsNotOpened, KeepsOld, OpensNew, writer_step}
 

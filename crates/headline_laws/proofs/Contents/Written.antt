@@ -15,8 +15,8 @@ use Rattle.mount_sound.specs.Owed.{IsLawful}
 use Rattle.writer_flow.specs.declared.handle.WriterHandle.{WriterHandle}
 use Rattle.writer_laws.specs.Counting.{StaysIn, StaysInAt}
 use Rattle.writer_laws.proofs.Facts.{goes}
-use Rattle.gathering.specs.Moments.{IsSoundAt, Moment, moment_after}
-use Rattle.gathering.proofs.Facts.{follows, legal_first, legal_rest, moment-append}
+use Rattle.reader_laws.specs.Moments.{IsSoundAt, Moment, moment_after}
+use Rattle.reader_laws.proofs.Gathered.Facts.{follows, legal_first, legal_rest, moment-append}
 use Rattle.script_lang.specs.Ranges.{FitsScript}
 use Rattle.script_lang.specs.declared.script.Data.{Data}
 use Rattle.script_lang.specs.declared.script.Statement.{Statement}
@@ -25,9 +25,9 @@ use Rattle.actor_core.specs.declared.kept.Kept.{Kept}
 use Rattle.actor_core.specs.Endings.{Ending}
 use Rattle.actor_core.specs.Statements.{work_of}
 use Rattle.run_core.specs.Play.{IsRight}
-use Rattle.play_laws.specs.OneFile.{OneFile}
-use Rattle.play_laws.specs.OneWriter.{OneWriter}
-use Rattle.play_laws.proofs.Facts.{Anyhow, IsItsWrite, IsQuiet, MayAsk, Next, OfWriter, Writes, statement_asks}
+use Rattle.headline_laws.specs.OneFile.{OneFile}
+use Rattle.headline_laws.specs.OneWriter.{OneWriter}
+use Rattle.headline_laws.proofs.Plays.Facts.{Anyhow, IsItsWrite, IsQuiet, MayAsk, Next, OfWriter, Writes, statement_asks}
 use Rattle.headline.specs.Run.{IsLine, Run, Told}
 use Rattle.headline_laws.proofs.Statements.Does.{Ended, did, was_gone}
 use Rattle.headline_laws.proofs.Statements.Known.{HasEntered}
@@ -44,7 +44,7 @@ no_exit : (w : ℕ) (c : Call) (r : Reply) → IsNoExit c → StaysInAt w c r
 no_exit w (Exit other) r is = absurd is
 no_exit w c r is = tt
 
-own_stay : (n w : ℕ) (es : List Event) → ((pre : List Event) (e : Event) (post : List Event) → es ≡ pre ++ e ∷ post → e.caller ≡ n → IsNoExit e.ask.call) → StaysIn w (made_by n es)
+pub own_stay : (n w : ℕ) (es : List Event) → ((pre : List Event) (e : Event) (post : List Event) → es ≡ pre ++ e ∷ post → e.caller ≡ n → IsNoExit e.ask.call) → StaysIn w (made_by n es)
 own_stay n w [] each = tt
 own_stay n w (e ∷ es) each =
     let rest = own_stay n w es (λ pre x post is its. each (e ∷ pre) x post (ap (λ z. e ∷ z) is) its) in

@@ -3,9 +3,9 @@ use Rattle.std.proofs.Common.{◌≡◌, ◌≤◌, inl, ℕ, true, false, Bool,
 use Rattle.std.proofs.lemmas.List.{append-nil}
 use Rattle.mount_model.specs.History.{Event, state_after}
 use Rattle.mount_sound.specs.Owed.{IsLawful}
-use Rattle.flow.specs.Running.{Runs}
-use Rattle.gathering.specs.Moments.{Dropping, IsSoundAt, Moment, moment_after}
-use Rattle.gathering.proofs.Facts.{follows, legal_first, legal_rest, moment-append, sound_after}
+use Rattle.mount_model.specs.Running.{Runs}
+use Rattle.reader_laws.specs.Moments.{Dropping, IsSoundAt, Moment, moment_after}
+use Rattle.reader_laws.proofs.Gathered.Facts.{follows, legal_first, legal_rest, moment-append, sound_after}
 use Rattle.writer_flow.specs.declared.handle.WriterHandle.{WriterHandle}
 use Rattle.writer_flow.specs.Opening.{open_program}
 use Rattle.writer_laws.specs.Knowing.{HasRow, IsOpened}
@@ -14,9 +14,9 @@ use Rattle.script_lang.specs.declared.line.Outcome.TheVariants as line
 use Rattle.script_lang.specs.declared.script.Statement.TheVariants.{Open}
 use Rattle.actor_core.specs.declared.kept.Kept.{Kept}
 use Rattle.actor_core.specs.Statements.{work_of}
-use Rattle.play_laws.specs.OneFile.{OneFile}
-use Rattle.play_laws.specs.OneWriter.{OneWriter}
-use Rattle.play_laws.proofs.Facts.{Next}
+use Rattle.headline_laws.specs.OneFile.{OneFile}
+use Rattle.headline_laws.specs.OneWriter.{OneWriter}
+use Rattle.headline_laws.proofs.Plays.Facts.{Next}
 use Rattle.headline.specs.Run.{Told}
 use Rattle.headline.specs.Files.{reader_after, reader_next}
 use Rattle.headline.specs.Changes.{Writing, writing_after, writing_next}

@@ -12,8 +12,8 @@ use Rattle.mount_sound.specs.Kept.{Begins, IsKept}
 use Rattle.mount_sound.specs.Landed.{whole}
 use Rattle.mount_sound.specs.Ledger.{entries_in}
 use Rattle.mount_sound.proofs.Facts.{Fits, all_fit}
-use Rattle.gathering.specs.Moments.{Dropping, IsNamed, IsSoundAt, Moment, file_in_room, file_told, index_then, issued_by, landed}
-use Rattle.gathering.proofs.Facts.{landed_whole, length-entries}
+use Rattle.reader_laws.specs.Moments.{Dropping, IsNamed, IsSoundAt, Moment, file_in_room, file_told, index_then, issued_by, landed}
+use Rattle.reader_laws.proofs.Gathered.Facts.{landed_whole, length-entries}
 use Rattle.writer_laws.specs.Counting.{entry_count}
 use Rattle.writer_laws.specs.Knowing.{HasRow}
 

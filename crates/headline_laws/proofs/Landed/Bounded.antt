@@ -5,8 +5,8 @@ use Rattle.mount_model.specs.History.{Event}
 use Rattle.mount_model.proofs.Facts.{IsOnNoWriter}
 use Rattle.mount_sound.specs.Owed.{IsLawful}
 use Rattle.writer_laws.specs.Waiting.{LetsBe}
-use Rattle.gathering.specs.Moments.{Dropping, IsSoundAt, Moment, landed, moment_after}
-use Rattle.gathering.proofs.Facts.{legal_first, legal_rest, moment-append}
+use Rattle.reader_laws.specs.Moments.{Dropping, IsSoundAt, Moment, landed, moment_after}
+use Rattle.reader_laws.proofs.Gathered.Facts.{legal_first, legal_rest, moment-append}
 use Rattle.writer_flow.specs.declared.handle.WriterHandle.{WriterHandle}
 use Rattle.script_lang.specs.declared.line.Outcome.{Outcome}
 use Rattle.script_lang.specs.declared.line.Outcome.TheVariants as line
@@ -23,11 +23,11 @@ use Rattle.actor_core.specs.Statements.{disarmed, does, work_of}
 use Rattle.actor_core.specs.Work.{finishes}
 use Rattle.actor_core.specs.Writers.{closes, syncs, writes as writes_statement}
 use Rattle.run_core.specs.Leading.{HadMemory}
-use Rattle.play_laws.specs.Ending.{DoesNothing}
-use Rattle.play_laws.specs.OneFile.{OneFile}
-use Rattle.play_laws.specs.OneWriter.{OneWriter}
-use Rattle.play_laws.specs.Writing.{ShowsWriting}
-use Rattle.play_laws.proofs.Facts.{ComesTo, GoesSo, IsSparing, KeepsIts, LetsUpTo, Next, Writes, came_good, came_up_to, lets_both, lets_none, next_first, statement_spares}
+use Rattle.headline_laws.specs.Ending.{DoesNothing}
+use Rattle.headline_laws.specs.OneFile.{OneFile}
+use Rattle.headline_laws.specs.OneWriter.{OneWriter}
+use Rattle.headline_laws.specs.Writing.{ShowsWriting}
+use Rattle.headline_laws.proofs.Plays.Facts.{ComesTo, GoesSo, IsSparing, KeepsIts, LetsUpTo, Next, Writes, came_good, came_up_to, lets_both, lets_none, next_first, statement_spares}
 use Rattle.headline.specs.Run.{Told}
 use Rattle.headline.specs.Causes.{WasMade}
 use Rattle.headline.specs.Writers.{Account, after_line, after_sync, after_write, any_landed, nothing, told_of}
@@ -177,7 +177,7 @@ module _ (m : Moment) (sound : IsSoundAt m) (n : ℕ) (history : List Event) (bl
             by (out over settled) = inr (record { settled = settled; idle = λ latest. inl over })
 
         -- the statement itself, behind a greeting
-        record AtStatement (z : Statement) : Type 0 where
+        pub record AtStatement (z : Statement) : Type 0 where
           pub left : Kept
           pub armed : Option Stop
           pub has : left.writer ≡ Some o.handle
@@ -190,7 +190,7 @@ module _ (m : Moment) (sound : IsSoundAt m) (n : ℕ) (history : List Event) (bl
           pub comes : ComesTo n (does left armed z) rest p.spent p.e
           pub ends : moment_after mid rest ≡ moment_after now p.mine
 
-        at_statement : (z : Statement) → t.statement ≡ z → AtStatement z
+        pub at_statement : (z : Statement) → t.statement ≡ z → AtStatement z
         at_statement z is =
             let g = greets n kept z p.mine p.spent p.e (comes_so z is) in
             let both : IsLawful now.state (g.first ++ g.rest) = subst (IsLawful now.state) g.all next.lawful in

@@ -1,7 +1,7 @@
 -- A statement of a writer: its program runs to its end, or it is stopped within a call, and then the writer is out, within what may have landed.
 use Rattle.std.proofs.Common.{◌≡◌, ◌≤◌, ℕ, true, false, List, [], ◌∷◌, ◌++◌, length, Option, Some, None, refl, sym, ap, ◌∙◌, subst, arith, if◌then◌else◌}
 use Rattle.turn_object.specs.Callers.{made_by}
-use Rattle.story.specs.Program.{Program, ask, done}
+use Rattle.mount_model.specs.Program.{Program, ask, done}
 use Rattle.mount_model.specs.declared.call.Ask.{Ask}
 use Rattle.mount_model.specs.declared.call.Call.{Call}
 use Rattle.mount_model.specs.declared.call.Call.TheVariants.{Exit, Write}
@@ -9,16 +9,16 @@ use Rattle.mount_model.specs.declared.reply.Reply.{Reply}
 use Rattle.mount_model.specs.declared.row.Row.{Row}
 use Rattle.mount_model.specs.History.{Event}
 use Rattle.mount_sound.specs.Owed.{IsLawful}
-use Rattle.flow.specs.Running.{Runs, unbroken}
+use Rattle.mount_model.specs.Running.{Runs, unbroken}
 use Rattle.actor_core.specs.declared.kept.Stop.{Stop}
 use Rattle.actor_core.specs.Endings.{Ending}
 use Rattle.actor_core.specs.Work.{finishes}
 use Rattle.actor_core.specs.Stopping.{carried, due_bytes, is_due, one_nearer}
 use Rattle.run_core.specs.Leading.{HadMemory}
-use Rattle.gathering.specs.Moments.{Dropping, Moment, landed, moment_after, next_moment}
-use Rattle.gathering.proofs.Facts.{grows_after, legal_first, legal_rest, moment-append}
+use Rattle.reader_laws.specs.Moments.{Dropping, Moment, landed, moment_after, next_moment}
+use Rattle.reader_laws.proofs.Gathered.Facts.{grows_after, legal_first, legal_rest, moment-append}
 use Rattle.writer_laws.specs.Counting.{StaysInAt, entry_count, wrote_by}
-use Rattle.play_laws.proofs.Facts.{ComesTo, lets_none}
+use Rattle.headline_laws.proofs.Plays.Facts.{ComesTo, lets_none}
 use Rattle.headline.specs.Writers.{Account, any_landed}
 use Rattle.headline_laws.proofs.Landed.Between.{AtPlace, IsBetween, between}
 use Rattle.headline_laws.proofs.Landed.Lasting.{Lasts, lasts, memory_rest}

@@ -1,10 +1,10 @@
 -- What a close leaves of its writer: it stays as its line tells of it, or is out, and then stays so for ever.
 use Rattle.std.proofs.Common.{◌≡◌, ◌⊎◌, ◌≤◌, inl, inr, ℕ, Bool, true, false, List, ◌∷◌, ◌++◌, length, Option, Some, None, Result, Ok, Err, refl, ap, sym, ◌∙◌, subst, arith}
-use Rattle.flow.specs.declared.stuck.Stuck.{Stuck}
-use Rattle.flow.specs.declared.stuck.Stuck.TheVariants as stuck
-use Rattle.flow.specs.Running.{Runs, unbroken}
-use Rattle.flow.proofs.Facts.{runs_in_two}
-use Rattle.story.specs.Program.{done}
+use Rattle.mount_model.specs.declared.stuck.Stuck.{Stuck}
+use Rattle.mount_model.specs.declared.stuck.Stuck.TheVariants as stuck
+use Rattle.mount_model.specs.Running.{Runs, unbroken}
+use Rattle.mount_model.proofs.Flows.Facts.{runs_in_two}
+use Rattle.mount_model.specs.Program.{done}
 use Rattle.mount_model.specs.declared.call.Ask.{Ask}
 use Rattle.mount_model.specs.declared.call.Call.TheVariants.{Exit, PutMeta}
 use Rattle.mount_model.specs.declared.reply.Reply.{Reply}
@@ -20,8 +20,8 @@ use Rattle.writer_flow.specs.Closing.{after_sync, close_from, close_program, exi
 use Rattle.writer_flow.specs.Ending.{gone_with, stays_with, trouble}
 use Rattle.writer_flow.specs.Handle.{closing_of}
 use Rattle.writer_flow.specs.Syncing.{sync_program}
-use Rattle.gathering.specs.Moments.{Dropping, IsSoundAt, Moment, landed, moment_after, next_moment}
-use Rattle.gathering.proofs.Facts.{follows, legal_first, legal_rest, moment-append}
+use Rattle.reader_laws.specs.Moments.{Dropping, IsSoundAt, Moment, landed, moment_after, next_moment}
+use Rattle.reader_laws.proofs.Gathered.Facts.{follows, legal_first, legal_rest, moment-append}
 use Rattle.writer_laws.specs.Counting.{entry_count}
 use Rattle.writer_laws.specs.Knowing.{HasRow, IsSynced, Knows}
 use Rattle.writer_laws.proofs.Facts.{sync_ends}
@@ -37,8 +37,8 @@ use Rattle.headline_laws.proofs.Landed.Settled.{IsSettled, settled_later}
 use Rattle.headline_laws.proofs.Landed.Sparing.{spared_next}
 use Rattle.headline_laws.proofs.Landed.Syncs.{if_synced_all, sync_ends_within}
 use Rattle.headline_laws.proofs.Landed.Writes.{EndsWithin, HoldsNow, IsHandle, OwnNext, one_row, own_next}
-use Rattle.gathering.specs.Bounds.{SparesIndex}
-use Rattle.gathering.proofs.Moments.Stepping.{sound_next}
+use Rattle.reader_laws.specs.Bounds.{SparesIndex}
+use Rattle.reader_laws.proofs.Gathered.Moments.Stepping.{sound_next}
 
 module _ (me : ℕ) (d : Dropping) where
   -- once the metadata dropping was asked for, all has landed, and the handle tells how much

@@ -5,12 +5,12 @@ use Rattle.std.proofs.lemmas.Bool.Decides.{nat_tests}
 use Rattle.plfs_types.specs.declared.entries.Trunc.{Trunc}
 use Rattle.plfs_types.specs.declared.entries.WriterCount.{WriterCount}
 use Rattle.plain_file.proofs.Facts.{Among}
-use Rattle.gathering.specs.Gathering.{Gathered, IsPrefixOf}
-use Rattle.gathering.specs.Moments.{Dropping, IsNamed, Moment, landed}
-use Rattle.gathering.specs.Opening.{HasView}
-use Rattle.gathering.specs.View.{WritersRise}
-use Rattle.gathering.proofs.Facts.{any_found, prefix_of}
-use Rattle.play_laws.specs.OneFile.{printed_cut}
+use Rattle.reader_laws.specs.Gathering.{Gathered, IsPrefixOf}
+use Rattle.reader_laws.specs.Moments.{Dropping, IsNamed, Moment, landed}
+use Rattle.reader_laws.specs.GatheringOpening.{HasView}
+use Rattle.reader_laws.specs.View.{WritersRise}
+use Rattle.reader_laws.proofs.Gathered.Facts.{any_found, prefix_of}
+use Rattle.headline_laws.specs.OneFile.{printed_cut}
 use Rattle.headline.specs.Views.{Seen, count_of, counted}
 use Rattle.headline_laws.proofs.Landed.Cuts.{at_least}
 

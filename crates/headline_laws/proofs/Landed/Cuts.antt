@@ -6,10 +6,10 @@ use Rattle.mount_model.specs.History.{Event}
 use Rattle.mount_sound.specs.Owed.{IsLawful}
 use Rattle.mount_sound.specs.Dropping.{bytes_of}
 use Rattle.mount_sound.specs.There.{entries_there}
-use Rattle.gathering.specs.Gathering.{Gathered, IsPrefixOf}
-use Rattle.gathering.specs.Moments.{Dropping, IsNamed, IsSoundAt, Moment, Stood, index_then, landed, log_then, moment_after}
-use Rattle.gathering.specs.Opening.{HasView}
-use Rattle.gathering.proofs.Facts.{any_found, found_any, grows_after, prefix_of}
+use Rattle.reader_laws.specs.Gathering.{Gathered, IsPrefixOf}
+use Rattle.reader_laws.specs.Moments.{Dropping, IsNamed, IsSoundAt, Moment, Stood, index_then, landed, log_then, moment_after}
+use Rattle.reader_laws.specs.GatheringOpening.{HasView}
+use Rattle.reader_laws.proofs.Gathered.Facts.{any_found, found_any, grows_after, prefix_of}
 use Rattle.plain_file.proofs.Facts.{Among, cases_Option}
 
 -- an index dropping of which something has landed stands

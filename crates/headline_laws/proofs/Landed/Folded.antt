@@ -3,11 +3,11 @@ use Rattle.std.proofs.Common.{◌≡◌, ◌⊎◌, ◌≤◌, ◌<◌, ◌+◌,
 use Rattle.std.specs.List.{AllByRecursion}
 use Rattle.std.proofs.lemmas.List.{append-nil}
 use Rattle.mount_model.specs.History.{Event}
-use Rattle.gathering.specs.Moments.{Dropping, IsSoundAt, Moment, landed, moment_after}
+use Rattle.reader_laws.specs.Moments.{Dropping, IsSoundAt, Moment, landed, moment_after}
 use Rattle.actor_core.specs.declared.kept.Kept.{Kept}
-use Rattle.play_laws.specs.OneFile.{OneFile}
-use Rattle.play_laws.specs.OneWriter.{OneWriter}
-use Rattle.play_laws.proofs.Facts.{Next}
+use Rattle.headline_laws.specs.OneFile.{OneFile}
+use Rattle.headline_laws.specs.OneWriter.{OneWriter}
+use Rattle.headline_laws.proofs.Plays.Facts.{Next}
 use Rattle.headline.specs.Run.{Told}
 use Rattle.headline.specs.Files.{reader_after, reader_next}
 use Rattle.headline.specs.Changes.{Writing, writing_after, writing_next}

@@ -1,5 +1,5 @@
 -- What a writer leaves that has left: metadata of all that it wrote, and no entry of an open writer. So it stays.
-use Rattle.std.proofs.Common.{◌≡◌, ◌⊎◌, inl, inr, ℕ, zero, suc, true, List, [], ◌∷◌, length, take, Option, Some, None, Ok, Err, refl, ap, sym, ◌∙◌, subst, arith}
+use Rattle.std.proofs.Common.{◌≡◌, ◌⊎◌, inl, inr, ℕ, zero, suc, true, List, [], ◌∷◌, length, take, Option, Some, Ok, Err, refl, ap, sym, ◌∙◌, subst, arith}
 use Rattle.std.specs.Prelude.{slice_get}
 use Rattle.container_layout.specs.declared.items.Item.{Item}
 use Rattle.container_layout.specs.declared.items.Item.TheVariants.{Meta}
@@ -10,7 +10,6 @@ use Rattle.store_api.specs.declared.tree.Room.{Room}
 use Rattle.store_laws.specs.Changes.{Removed}
 use Rattle.store_laws.proofs.Facts.{acts_told, changed_room, remove_told}
 use Rattle.mount_model.specs.declared.call.Ask.{Ask}
-use Rattle.mount_model.specs.declared.call.Call.{Call}
 use Rattle.mount_model.specs.declared.call.Call.TheVariants.{Exit, PutMeta, Write}
 use Rattle.mount_model.specs.declared.reply.Refusal.TheVariants.{NotOpen}
 use Rattle.mount_model.specs.declared.reply.Refusal.{Refusal}
@@ -19,10 +18,10 @@ use Rattle.mount_model.specs.declared.reply.Reply.TheVariants as reply
 use Rattle.mount_model.specs.declared.row.Row.{Row}
 use Rattle.mount_model.specs.declared.row.Stage.TheVariants as stage
 use Rattle.mount_model.specs.History.{Event}
-use Rattle.mount_model.specs.Leaving.{closed, exit_check, exit_outcome, exit_step, put_meta_check, put_meta_outcome, put_meta_step}
+use Rattle.mount_model.specs.Leaving.{closed, exit_check, exit_outcome, exit_step, put_meta_check, put_meta_outcome}
 use Rattle.mount_model.specs.Making.{MakesAct, Told}
 use Rattle.mount_model.specs.Paths.{open_path}
-use Rattle.mount_model.specs.State.{State, Table, last_id}
+use Rattle.mount_model.specs.State.{State, Table}
 use Rattle.mount_model.specs.Step.{Answers, IsStep}
 use Rattle.mount_model.specs.Table.{is_live, may_close, only, row_of, with_row, writer_of}
 use Rattle.mount_model.proofs.Facts.{IsHeld, is_held, match_cases, row_of-with_row, row_of_id, step_cases, stop_replies}
@@ -34,14 +33,14 @@ use Rattle.mount_sound.specs.Ledger.{entries_in}
 use Rattle.mount_sound.specs.Owed.{IsLawful, IsNotLive}
 use Rattle.mount_sound.specs.There.{landed_entries}
 use Rattle.mount_sound.proofs.Facts.{all_fit, paths_differ, writer_told}
-use Rattle.gathering.specs.Moments.{Dropping, HadItem, IsSoundAt, Moment, file_in_room, file_told, issued_by, landed, landed_by, moment_after, next_moment}
-use Rattle.gathering.proofs.Facts.{grows_after, landed_at, length-entries}
+use Rattle.reader_laws.specs.Moments.{Dropping, HadItem, IsSoundAt, Moment, file_in_room, file_told, issued_by, landed, landed_by, moment_after, next_moment}
+use Rattle.reader_laws.proofs.Gathered.Facts.{grows_after, landed_at, length-entries}
 use Rattle.plfs_types.specs.declared.entries.Entry.{Entry}
 use Rattle.writer_laws.specs.Counting.{entry_count}
 use Rattle.writer_laws.specs.Knowing.{HasRow}
 use Rattle.headline_laws.proofs.Contents.Issues.{Issues, call_issues}
 use Rattle.headline_laws.proofs.Landed.Between.{AtPlace, IsBetween, between, its_dropping}
-use Rattle.headline_laws.proofs.Landed.Leaving.{drawn_next, exit_dead, row_drawn}
+use Rattle.headline_laws.proofs.Landed.Leaving.{drawn_next, row_drawn}
 use Rattle.headline_laws.proofs.Landed.Settled.{IsOut, only_live, out_later}
 use Rattle.headline_laws.proofs.Trees.Away.{IsAway, away_later}
 

@@ -8,16 +8,16 @@ use Rattle.mount_model.specs.declared.row.Row.{Row}
 use Rattle.mount_model.specs.History.{Event}
 use Rattle.mount_model.specs.Step.{IsStep}
 use Rattle.mount_sound.specs.Owed.{IsLawful}
-use Rattle.gathering.specs.Bounds.{SparesIndex}
-use Rattle.gathering.specs.Moments.{Dropping, Moment, landed, moment_after, next_moment}
-use Rattle.gathering.proofs.Facts.{legal_first, legal_rest, moment-append}
-use Rattle.gathering.proofs.Moments.Stepping.{sound_next}
+use Rattle.reader_laws.specs.Bounds.{SparesIndex}
+use Rattle.reader_laws.specs.Moments.{Dropping, Moment, landed, moment_after, next_moment}
+use Rattle.reader_laws.proofs.Gathered.Facts.{legal_first, legal_rest, moment-append}
+use Rattle.reader_laws.proofs.Gathered.Moments.Stepping.{sound_next}
 use Rattle.writer_laws.specs.Counting.{entry_count}
 use Rattle.writer_laws.specs.Waiting.{IsOn, LeavesAlone, LetsBe}
 use Rattle.writer_laws.proofs.Stops.{spared_row}
 use Rattle.run_core.specs.Leading.{HadMemory}
 use Rattle.actor_core.specs.Endings.{Ending}
-use Rattle.play_laws.proofs.Facts.{LetsUpTo, breaks, lets}
+use Rattle.headline_laws.proofs.Plays.Facts.{LetsUpTo, breaks, lets}
 use Rattle.headline.specs.Writers.{Account}
 use Rattle.headline_laws.proofs.Landed.Between.{AtPlace, IsBetween, between}
 use Rattle.headline_laws.proofs.Landed.Leaving.{drawn_next, row_drawn, stop_kills}

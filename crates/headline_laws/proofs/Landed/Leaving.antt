@@ -22,7 +22,7 @@ use Rattle.mount_model.specs.Stopping.{IsEndedBy, row_ended, without_caller}
 use Rattle.mount_model.specs.Table.{at_stage, is_live, row_of, with_row, without_row, writer_of}
 use Rattle.mount_model.proofs.Facts.{IsHeld, begun_table, is_held, match_cases, row_of-with_row, row_of-without_row, row_of_all, row_of_id, step_cases, step_place}
 use Rattle.mount_sound.specs.Owed.{IsLawful, IsNotLive}
-use Rattle.gathering.specs.Moments.{Moment}
+use Rattle.reader_laws.specs.Moments.{Moment}
 use Rattle.writer_laws.specs.Knowing.{HasRow}
 
 -- ---- ids

@@ -1,16 +1,16 @@
 -- A write, a sync and a close of a writer that is open: what has landed of it keeps to what the line tells, whether they end or are stopped.
 use Rattle.std.proofs.Common.{◌≡◌, ◌⊎◌, ◌≤◌, inl, inr, ℕ, Bool, true, false, nat_eq, nat_le, List, [], ◌∷◌, ◌++◌, length, Option, Some, None, Result, Ok, Err, refl, sym, ap, ◌∙◌, subst, arith, append_assoc, if◌then◌else◌}
-use Rattle.story.specs.Program.{ask, followed_by}
-use Rattle.story.specs.Process.{asks}
+use Rattle.mount_model.specs.Program.{ask, followed_by}
+use Rattle.mount_model.specs.Process.{asks}
 use Rattle.mount_model.specs.declared.call.Call.TheVariants.{Exit, Flush, Greet, PutMeta, SyncIndex, SyncLog, Write as AskWrite}
 use Rattle.mount_model.specs.declared.reply.Reply.{Reply}
 use Rattle.mount_model.specs.declared.reply.Reply.TheVariants as reply
 use Rattle.mount_model.specs.declared.row.Row.{Row}
 use Rattle.mount_model.specs.History.{Event}
 use Rattle.mount_sound.specs.Owed.{IsLawful}
-use Rattle.flow.specs.declared.stuck.Stuck.{Stuck}
-use Rattle.flow.specs.declared.stuck.Stuck.TheVariants as stuck
-use Rattle.flow.specs.Running.{unbroken}
+use Rattle.mount_model.specs.declared.stuck.Stuck.{Stuck}
+use Rattle.mount_model.specs.declared.stuck.Stuck.TheVariants as stuck
+use Rattle.mount_model.specs.Running.{unbroken}
 use Rattle.script_lang.specs.declared.line.Outcome.{Outcome}
 use Rattle.script_lang.specs.declared.line.Outcome.TheVariants as line
 use Rattle.script_lang.specs.declared.line.Why.TheVariants.{NotOpen, StampsSpent, TooFar}
@@ -32,10 +32,10 @@ use Rattle.actor_core.specs.Stopping.{carried}
 use Rattle.actor_core.specs.Work.{finishes}
 use Rattle.actor_core.specs.Writers.{closes, syncs, writes as writes_statement, writes_bytes}
 use Rattle.run_core.specs.Leading.{HadMemory}
-use Rattle.gathering.specs.Moments.{Dropping, Moment, landed, moment_after}
+use Rattle.reader_laws.specs.Moments.{Dropping, Moment, landed, moment_after}
 use Rattle.writer_laws.specs.Counting.{entry_count}
 use Rattle.writer_laws.specs.Waiting.{LeavesAlone, LetsBe}
-use Rattle.play_laws.proofs.Facts.{ComesTo, lets_both, lets_none, lets_one}
+use Rattle.headline_laws.proofs.Plays.Facts.{ComesTo, lets_both, lets_none, lets_one}
 use Rattle.headline.specs.Writers.{Account, after_sync, after_write, any_landed}
 use Rattle.headline_laws.proofs.OrderlyLines.Synced.{room_same}
 use Rattle.headline_laws.proofs.Statements.Did.{IsOpen}

@@ -1,10 +1,10 @@
 -- A writer that was opened has written nothing, and its handle tells of a buffer of the actor's capacity.
 use Rattle.std.proofs.Common.{◌≡◌, ℕ, true, List, [], ◌∷◌, Result, Ok, Err, refl, subst, arith}
 use Rattle.turn_object.specs.Callers.{made_by}
-use Rattle.flow.specs.declared.stuck.Stuck.{Stuck}
-use Rattle.flow.specs.Running.{Runs, asking}
-use Rattle.story.specs.Program.{Program, ask, done}
-use Rattle.story.specs.Calls.{AreCallsOf}
+use Rattle.mount_model.specs.declared.stuck.Stuck.{Stuck}
+use Rattle.mount_model.specs.Running.{Runs, asking}
+use Rattle.mount_model.specs.Program.{Program, ask, done}
+use Rattle.mount_model.specs.Calls.{AreCallsOf}
 use Rattle.mount_model.specs.declared.call.Call.{Call}
 use Rattle.mount_model.specs.declared.reply.Reply.{Reply}
 use Rattle.mount_model.specs.declared.reply.Reply.TheVariants.{Done, Entered, Floored, Room}
@@ -12,7 +12,7 @@ use Rattle.mount_model.specs.declared.row.Row.{Row}
 use Rattle.mount_model.specs.History.{Event}
 use Rattle.writer_flow.specs.declared.handle.WriterHandle.{WriterHandle}
 use Rattle.writer_flow.specs.Opening.{enters, finds_floor, makes_hostdir, makes_index, makes_log, open_program}
-use Rattle.gathering.specs.Moments.{Dropping, Moment}
+use Rattle.reader_laws.specs.Moments.{Dropping, Moment}
 use Rattle.writer_laws.specs.Counting.{entry_count}
 use Rattle.headline.specs.Writers.{nothing}
 use Rattle.headline_laws.proofs.Landed.Between.{AtPlace, IsBetween, between}

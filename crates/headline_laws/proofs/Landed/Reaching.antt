@@ -7,11 +7,11 @@ use Rattle.mount_model.specs.declared.row.Row.{Row}
 use Rattle.mount_model.specs.History.{Event}
 use Rattle.mount_model.specs.Step.{Answers}
 use Rattle.mount_sound.specs.Owed.{IsLawful}
-use Rattle.story.specs.Program.{Program, ask, done}
-use Rattle.flow.specs.Running.{Runs, unbroken}
-use Rattle.flow.proofs.Facts.{runs_done, runs_next}
-use Rattle.gathering.specs.Moments.{Dropping, Moment, landed, moment_after, next_moment}
-use Rattle.gathering.proofs.Moments.Stepping.{sound_next}
+use Rattle.mount_model.specs.Program.{Program, ask, done}
+use Rattle.mount_model.specs.Running.{Runs, unbroken}
+use Rattle.mount_model.proofs.Flows.Facts.{runs_done, runs_next}
+use Rattle.reader_laws.specs.Moments.{Dropping, Moment, landed, moment_after, next_moment}
+use Rattle.reader_laws.proofs.Gathered.Moments.Stepping.{sound_next}
 use Rattle.writer_laws.proofs.Stops.{spared_row, whole_answers}
 use Rattle.headline_laws.proofs.Landed.Between.{AtPlace}
 use Rattle.headline_laws.proofs.Landed.Sparing.{spared_next}

@@ -17,8 +17,8 @@ use Rattle.mount_model.specs.Table.{held_by, is_live, only, row_of, writer_of}
 use Rattle.mount_model.proofs.Facts.{on_writer, step_cases}
 use Rattle.mount_sound.specs.Owed.{IsLawful, IsNotLive}
 use Rattle.mount_sound.proofs.Facts.{not_live_later}
-use Rattle.gathering.specs.Moments.{Dropping, IsNamed, IsSoundAt, Moment, landed, moment_after, next_moment}
-use Rattle.gathering.proofs.Moments.Stepping.{lands_none_next, sound_next}
+use Rattle.reader_laws.specs.Moments.{Dropping, IsNamed, IsSoundAt, Moment, landed, moment_after, next_moment}
+use Rattle.reader_laws.proofs.Gathered.Moments.Stepping.{lands_none_next, sound_next}
 use Rattle.headline_laws.proofs.Landed.Leaving.{drawn_next}
 use Rattle.headline.specs.Writers.{Account}
 use Rattle.headline_laws.proofs.Landed.Sparing.{either_spares, ended_store, none_made, part_store, same_landed}

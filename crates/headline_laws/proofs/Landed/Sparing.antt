@@ -24,9 +24,9 @@ use Rattle.mount_model.specs.Stopping.{IsEndedBy, MakesPart, part_made, part_of}
 use Rattle.mount_model.specs.Table.{held_by, only, row_of, writer_of}
 use Rattle.mount_model.proofs.Facts.{on_writer, step_cases}
 use Rattle.mount_sound.specs.Owed.{IsLawful}
-use Rattle.gathering.specs.Bounds.{SparesIndex}
-use Rattle.gathering.specs.Moments.{Dropping, IsNamed, Moment, landed, next_moment}
-use Rattle.gathering.proofs.Moments.Stepping.{lands_none_next}
+use Rattle.reader_laws.specs.Bounds.{SparesIndex}
+use Rattle.reader_laws.specs.Moments.{Dropping, IsNamed, Moment, landed, next_moment}
+use Rattle.reader_laws.proofs.Gathered.Moments.Stepping.{lands_none_next}
 use Rattle.writer_laws.specs.Knowing.{HasRow}
 use Rattle.headline_laws.proofs.Landed.Between.{AtPlace, between}
 

@@ -12,9 +12,9 @@ use Rattle.mount_model.specs.Replies.{FitsAsk}
 use Rattle.mount_model.specs.Step.{IsStep}
 use Rattle.mount_model.proofs.Facts.{step_fits}
 use Rattle.mount_sound.specs.Owed.{IsLawful}
-use Rattle.gathering.specs.Moments.{Dropping, Moment, landed, next_moment}
-use Rattle.gathering.proofs.Facts.{grows_after}
-use Rattle.gathering.proofs.Moments.Stepping.{sound_next}
+use Rattle.reader_laws.specs.Moments.{Dropping, Moment, landed, next_moment}
+use Rattle.reader_laws.proofs.Gathered.Facts.{grows_after}
+use Rattle.reader_laws.proofs.Gathered.Moments.Stepping.{sound_next}
 use Rattle.writer_laws.specs.Counting.{StaysInAt, wrote_by, wrote_count}
 use Rattle.headline_laws.proofs.Landed.Leaving.{drawn_next, row_drawn, stop_kills}
 use Rattle.writer_laws.proofs.Stops.{StepKept, any_kept}

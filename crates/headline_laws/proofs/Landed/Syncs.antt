@@ -2,10 +2,10 @@
 use Rattle.std.proofs.Common.{◌≡◌, ℕ, true, false, nat_eq, List, ◌∷◌, length, Result, Ok, Err, refl, ap, sym, ◌∙◌, subst, arith}
 use Rattle.std.specs.Prelude.{if◌then◌else◌}
 use Rattle.std.proofs.lemmas.Bool.Decides.{nat_tests}
-use Rattle.flow.specs.declared.stuck.Stuck.{Stuck}
-use Rattle.flow.specs.declared.stuck.Stuck.TheVariants as stuck
-use Rattle.flow.specs.Running.{Runs, unbroken}
-use Rattle.story.specs.Program.{ask, done}
+use Rattle.mount_model.specs.declared.stuck.Stuck.{Stuck}
+use Rattle.mount_model.specs.declared.stuck.Stuck.TheVariants as stuck
+use Rattle.mount_model.specs.Running.{Runs, unbroken}
+use Rattle.mount_model.specs.Program.{ask, done}
 use Rattle.mount_model.specs.declared.call.Ask.{Ask}
 use Rattle.mount_model.specs.declared.call.Call.{Call}
 use Rattle.mount_model.specs.declared.call.Call.TheVariants.{Flush, SyncIndex, SyncLog}
@@ -21,8 +21,8 @@ use Rattle.writer_flow.specs.Ending.{stays_with, trouble}
 use Rattle.writer_flow.specs.Handle.{flushed_of, synced_of}
 use Rattle.writer_flow.specs.Syncing.{flushes_and_syncs, if_log_synced, if_synced, sync_program, syncs_index}
 use Rattle.writer_flow.specs.Writing.{if_flushed}
-use Rattle.gathering.specs.Bounds.{SparesIndex}
-use Rattle.gathering.specs.Moments.{Dropping, Moment, landed, moment_after, next_moment}
+use Rattle.reader_laws.specs.Bounds.{SparesIndex}
+use Rattle.reader_laws.specs.Moments.{Dropping, Moment, landed, moment_after, next_moment}
 use Rattle.writer_laws.specs.Counting.{StaysInAt, entry_count}
 use Rattle.writer_laws.proofs.Own.{LogSyncedOwn, MarkedOwn, SyncedOwn, sync_index_own, sync_log_own}
 use Rattle.outcomes.specs.Outcomes.{sync_outcome}

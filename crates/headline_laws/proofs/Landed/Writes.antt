@@ -2,10 +2,10 @@
 use Rattle.std.proofs.Common.{◌≡◌, ◌≤◌, ◌<◌, ◌+◌, inl, inr, ℕ, true, false, nat_eq, nat_le, List, ◌∷◌, length, Option, Some, Result, Ok, Err, refl, ap, sym, ◌∙◌, subst, arith}
 use Rattle.std.specs.Prelude.{if◌then◌else◌}
 use Rattle.std.proofs.lemmas.Bool.Decides.{nat_tests}
-use Rattle.flow.specs.declared.stuck.Stuck.{Stuck}
-use Rattle.flow.specs.declared.stuck.Stuck.TheVariants as stuck
-use Rattle.flow.specs.Running.{Runs, unbroken}
-use Rattle.story.specs.Program.{ask, done}
+use Rattle.mount_model.specs.declared.stuck.Stuck.{Stuck}
+use Rattle.mount_model.specs.declared.stuck.Stuck.TheVariants as stuck
+use Rattle.mount_model.specs.Running.{Runs, unbroken}
+use Rattle.mount_model.specs.Program.{ask, done}
 use Rattle.mount_model.specs.declared.call.Ask.{Ask}
 use Rattle.mount_model.specs.declared.call.Call.{Call}
 use Rattle.mount_model.specs.declared.call.Call.TheVariants.{Flush, Write}
@@ -24,9 +24,9 @@ use Rattle.writer_flow.specs.declared.handle.WriterOut.{WriterOut}
 use Rattle.writer_flow.specs.Ending.{stays_with, trouble}
 use Rattle.writer_flow.specs.Handle.{flushed_of, one_more_of}
 use Rattle.writer_flow.specs.Writing.{if_flushed, if_wrote, write_program, writes}
-use Rattle.gathering.specs.Bounds.{SparesIndex}
-use Rattle.gathering.specs.Moments.{Dropping, Moment, landed, moment_after, next_moment}
-use Rattle.gathering.proofs.Moments.Stepping.{sound_next}
+use Rattle.reader_laws.specs.Bounds.{SparesIndex}
+use Rattle.reader_laws.specs.Moments.{Dropping, Moment, landed, moment_after, next_moment}
+use Rattle.reader_laws.proofs.Gathered.Moments.Stepping.{sound_next}
 use Rattle.writer_laws.specs.Counting.{StaysInAt, entry_count, wrote_by, wrote_count}
 use Rattle.writer_laws.specs.Knowing.{HasRow}
 use Rattle.writer_laws.proofs.Own.{FlushedOwn, WroteOwn, flush_own, write_own}

@@ -1,11 +1,11 @@
 -- What the line of one statement says of the one file that its actor has open.
-use Rattle.std.proofs.Common.{◌≡◌, ◌<◌, ◌+◌, ℕ, List, [], ◌∷◌, ◌++◌, length, map, take, Option, Some, None, refl, sym, ap, ◌∙◌, subst, arith}
+use Rattle.std.proofs.Common.{◌≡◌, ◌<◌, ◌+◌, ℕ, List, [], ◌∷◌, ◌++◌, length, take, Option, Some, None, refl, sym, ap, ◌∙◌, subst, arith}
 use Rattle.std.specs.Prelude.{⊤, slice_get}
 use Rattle.std.proofs.lemmas.List.{length-append}
 use Rattle.plfs_types.specs.declared.entries.Trunc.{Trunc}
 use Rattle.plain_file.specs.declared.pieces.Piece.{Piece}
 use Rattle.plain_file.specs.File.{slice}
-use Rattle.gathering.specs.Moments.{Moment}
+use Rattle.reader_laws.specs.Moments.{Moment}
 use Rattle.refresh_laws.specs.Refreshing.{IsNotBelow}
 use Rattle.script_lang.specs.declared.line.Outcome.{Outcome}
 use Rattle.script_lang.specs.declared.line.Outcome.TheVariants as line
@@ -16,12 +16,11 @@ use Rattle.script_lang.specs.declared.script.Statement.TheVariants.{Flatten, Map
 use Rattle.outcomes.specs.Data.{bytes_of, length_of}
 use Rattle.outcomes.specs.Outcomes.{map_text}
 use Rattle.outcomes.proofs.DataLemmas.{length_is}
-use Rattle.play_laws.specs.Comparing.{BeginsOtherwise, FirstDifference}
-use Rattle.play_laws.specs.Ending.{DoesNothing}
-use Rattle.play_laws.specs.OneFile.{ArePiecesSeen, OneFile, printed_cut, seen_bytes}
-use Rattle.play_laws.specs.Opening.{Stretch}
-use Rattle.play_laws.specs.Showing.{Shows, ShowsClosing, ShowsFlattening, ShowsLook, ShowsMap, ShowsNone, ShowsOpening, ShowsRead, ShowsRecovery, ShowsRefresh, ShowsRefreshed, ShowsRename, ShowsTruncate, ShowsVerified, TellsOneFile}
-use Rattle.headline.specs.Run.{before}
+use Rattle.headline_laws.specs.Comparing.{BeginsOtherwise, FirstDifference}
+use Rattle.headline_laws.specs.Ending.{DoesNothing}
+use Rattle.headline_laws.specs.OneFile.{ArePiecesSeen, OneFile, printed_cut, seen_bytes}
+use Rattle.headline_laws.specs.Opening.{Stretch}
+use Rattle.headline_laws.specs.Showing.{Shows, ShowsClosing, ShowsFlattening, ShowsLook, ShowsMap, ShowsNone, ShowsOpening, ShowsRead, ShowsRecovery, ShowsRefresh, ShowsRefreshed, ShowsRename, ShowsTruncate, ShowsVerified, TellsOneFile}
 use Rattle.headline.specs.Files.{Answers, DiffersAt}
 
 abbrev IsNoReader : Outcome → Type 0

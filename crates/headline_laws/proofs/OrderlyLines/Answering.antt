@@ -7,21 +7,21 @@ use Rattle.std.proofs.lemmas.Bool.Decides.{nat_tests}
 use Rattle.plfs_types.specs.declared.entries.Trunc.{Trunc}
 use Rattle.plfs_types.specs.declared.entries.WriterCount.{WriterCount}
 use Rattle.plain_file.proofs.Facts.{Among}
-use Rattle.gathering.specs.Moments.{Dropping, Moment}
-use Rattle.gathering.specs.Gathering.{Gathered}
-use Rattle.gathering.proofs.Facts.{among, any_found, found_any}
-use Rattle.story.specs.Performers.{told_at}
+use Rattle.reader_laws.specs.Moments.{Dropping, Moment}
+use Rattle.reader_laws.specs.Gathering.{Gathered}
+use Rattle.reader_laws.proofs.Gathered.Facts.{among, any_found, found_any}
+use Rattle.mount_model.specs.Performers.{told_at}
 use Rattle.script_lang.specs.declared.line.Line.{Line}
 use Rattle.script_lang.specs.declared.line.Outcome.{Outcome}
 use Rattle.script_lang.specs.declared.line.Outcome.TheVariants as line
 use Rattle.script_lang.specs.declared.script.Numbered.{Numbered}
 use Rattle.script_lang.specs.declared.script.Statement.TheVariants.{Refresh}
 use Rattle.run_core.specs.Course.{own as own_statements}
-use Rattle.play_laws.specs.OneFile.{OneFile, printed_cut, seen_bytes}
-use Rattle.play_laws.specs.OneWriter.{OneWriter}
-use Rattle.play_laws.specs.Opening.{Stretch}
-use Rattle.play_laws.specs.Readers.{ShowsEach}
-use Rattle.play_laws.specs.Showing.{TellsOneFile}
+use Rattle.headline_laws.specs.OneFile.{OneFile, printed_cut, seen_bytes}
+use Rattle.headline_laws.specs.OneWriter.{OneWriter}
+use Rattle.headline_laws.specs.Opening.{Stretch}
+use Rattle.headline_laws.specs.Readers.{ShowsEach}
+use Rattle.headline_laws.specs.Showing.{TellsOneFile}
 use Rattle.headline.specs.Run.{IsLine, Phased, Run, Says, Told, before, beside, own, phased, surely_before, told}
 use Rattle.headline.specs.Files.{Answers, reader_after, reader_at, reader_next}
 use Rattle.headline_laws.proofs.OrderlyLines.Places.{Rise, actors, among_later, beside_rise, own_split}

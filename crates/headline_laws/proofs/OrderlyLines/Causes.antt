@@ -6,10 +6,10 @@ use Rattle.std.proofs.lemmas.List.Elements.{All-head, All-tail}
 use Rattle.plfs_types.specs.Counts.{HasRisen}
 use Rattle.turn_object.specs.Callers.{is_by}
 use Rattle.turn_object.specs.Front.{KeepsIn}
-use Rattle.story.specs.MakesCalls.{one_history}
-use Rattle.story.specs.Performers.{told_at}
-use Rattle.story.specs.Plays.{Plays, PlaysAll}
-use Rattle.story.specs.Process.{asks, ends, pauses, shares, tells}
+use Rattle.mount_model.specs.MakesCalls.{one_history}
+use Rattle.mount_model.specs.Performers.{told_at}
+use Rattle.mount_model.specs.Plays.{Plays, PlaysAll}
+use Rattle.mount_model.specs.Process.{asks, ends, pauses, shares, tells}
 use Rattle.mount_model.specs.History.{Event}
 use Rattle.script_lang.specs.declared.line.Line.{Line}
 use Rattle.run_core.specs.Course.{Course}

@@ -12,12 +12,12 @@ use Rattle.run_core.specs.Course.{own}
 use Rattle.run_core.specs.Written.{whose}
 use Rattle.run_core.specs.Cast.{statements_in}
 use Rattle.run_core.specs.Play.{IsRight}
-use Rattle.story.specs.Performers.{told_at}
-use Rattle.gathering.specs.Moments.{Moment}
-use Rattle.play_laws.specs.OneFile.{OneFile}
-use Rattle.play_laws.specs.OneWriter.{OneWriter}
-use Rattle.play_laws.specs.Opening.{Stretch}
-use Rattle.play_laws.specs.Readers.{ReadersShow, ShowsEach}
+use Rattle.mount_model.specs.Performers.{told_at}
+use Rattle.reader_laws.specs.Moments.{Moment}
+use Rattle.headline_laws.specs.OneFile.{OneFile}
+use Rattle.headline_laws.specs.OneWriter.{OneWriter}
+use Rattle.headline_laws.specs.Opening.{Stretch}
+use Rattle.headline_laws.specs.Readers.{ReadersShow, ShowsEach}
 use Rattle.headline.specs.Run.{Phased, phased}
 
 abbrev numbers : List Line → List ℕ
@@ -91,7 +91,7 @@ lines_places phase (p ∷ phases) =
 abbrev IsDeclared : Script → ℕ → Type 0
 IsDeclared script a = (declared : ActorDecl) × (slice_get script.actors a ≡ Some declared)
 
--- The field `numbered` of the headline, from the law of play_laws.
+-- The field `numbered` of the headline, from the law of the lines of a play.
 pub numbers_told : (script : Script) (start : Moment) (lines : List Line) (end : State) (right : IsRight script start.state lines end) → ReadersShow script start lines end right
     → AllByRecursion (λ (s : Numbered). (declared : ActorDecl) × (slice_get script.actors s.actor ≡ Some declared)) (statements_in script.phases)
     → map (λ (l : Line). l.number) lines ≡ map (λ (s : Phased). s.is.line) (phased 0 script.phases)

@@ -6,11 +6,11 @@ use Rattle.std.proofs.lemmas.List.Elements.{recursion_from_All}
 use Rattle.plfs_types.specs.Counts.{HasRisen}
 use Rattle.mount_model.specs.State.{State}
 use Rattle.mount_sound.specs.Sound.{IsClean, IsFine}
-use Rattle.gathering.specs.Moments.{Moment}
-use Rattle.story.specs.MakesCalls.{EachPlays, Role}
-use Rattle.story.specs.Performers.{left_of, told_at, told_by_each}
-use Rattle.story.specs.Plays.{PlaysAll}
-use Rattle.story.specs.Process.{ends}
+use Rattle.reader_laws.specs.Moments.{Moment}
+use Rattle.mount_model.specs.MakesCalls.{EachPlays, Role}
+use Rattle.mount_model.specs.Performers.{left_of, told_at, told_by_each}
+use Rattle.mount_model.specs.Plays.{PlaysAll}
+use Rattle.mount_model.specs.Process.{ends}
 use Rattle.mount_model.specs.declared.call.Ask.{Ask}
 use Rattle.mount_model.specs.declared.reply.Reply.{Reply}
 use Rattle.mount_model.specs.History.{Event}
@@ -31,8 +31,8 @@ use Rattle.run_core.specs.Course.{course_of, own as own_statements}
 use Rattle.run_core.specs.Play.{IsPlay, IsRight}
 use Rattle.run_core.specs.Written.{whose}
 use Rattle.run_core.proofs.Facts.{AreGood, AreWell, IsWell, NoFault, play_right, through_tells_good, well_or_risen, work_caused}
-use Rattle.play_laws.specs.Undamaged.{AreUndamaged, IsUndamaged}
-use Rattle.play_laws.proofs.Facts.{readers_show, right_counts, right_undamaged}
+use Rattle.headline_laws.specs.Undamaged.{AreUndamaged, IsUndamaged}
+use Rattle.headline_laws.proofs.Plays.Facts.{readers_show, right_counts, right_undamaged}
 use Rattle.headline.specs.Run.{IsLine, Phased, Run, Says, Told, before, beside, own, phased, told}
 use Rattle.headline.specs.Files.{reader_at}
 use Rattle.headline.specs.Changes.{Writes, Writing, none, unsure, writer, writing_at}
@@ -40,7 +40,7 @@ use Rattle.headline.specs.Causes.{MayBeReady, MayHave, WasMade, WasStopped, last
 use Rattle.headline.specs.Kinds.{IsOfKind}
 use Rattle.headline.specs.Headline.{IsOrderly}
 use Rattle.plain_file.proofs.Facts.{Among}
-use Rattle.gathering.proofs.Facts.{all_at, among, any_found}
+use Rattle.reader_laws.proofs.Gathered.Facts.{all_at, among, any_found}
 use Rattle.headline_laws.proofs.Statements.Did.{Had, IsOfKindOr, IsOpen, IsThere, StopsSo}
 use Rattle.headline_laws.proofs.Statements.Does.{Ended, did, was_gone}
 use Rattle.headline_laws.proofs.OrderlyLines.Causes.{GoodEach, all_good, good_at, good_own, risen_between}

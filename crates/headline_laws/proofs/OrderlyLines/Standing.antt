@@ -2,7 +2,7 @@
 use Rattle.std.proofs.Common.{◌≡◌, ◌≢◌, ◌⊎◌, inl, inr, ℕ, Bool, true, false, nat_eq, List, [], ◌∷◌, ◌++◌, map, Option, Some, None, refl, sym, ap, ◌∙◌, subst, if◌then◌else◌, ◌+◌}
 use Rattle.std.specs.Prelude.{⊤, is_some}
 use Rattle.std.specs.List.{Any}
-use Rattle.story.specs.Performers.{told_at}
+use Rattle.mount_model.specs.Performers.{told_at}
 use Rattle.writer_flow.specs.declared.handle.WriterHandle.{WriterHandle}
 use Rattle.index_reader.specs.declared.opened.OpenReader.{OpenReader}
 use Rattle.script_lang.specs.declared.line.Line.{Line}
@@ -20,7 +20,7 @@ use Rattle.headline.specs.Files.{reader_after, reader_next}
 use Rattle.headline.specs.Changes.{Writing, id_of, in_doubt, none, unsure, writer, writing_after, writing_next}
 use Rattle.headline.specs.Causes.{MayHave, last_outcome}
 use Rattle.plain_file.proofs.Facts.{Among}
-use Rattle.gathering.proofs.Facts.{found_any}
+use Rattle.reader_laws.proofs.Gathered.Facts.{found_any}
 use Rattle.headline_laws.proofs.Statements.Did.{ArmsSo, Did, IsOpen, IsThere, ReadsSo, StopsSo, WritesSo}
 use Rattle.headline_laws.proofs.Statements.Does.{Ended, did, was_gone}
 use Rattle.headline_laws.proofs.Statements.Chains.{Chain}

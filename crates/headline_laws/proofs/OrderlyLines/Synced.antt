@@ -10,14 +10,14 @@ use Rattle.script_lang.specs.declared.script.ActorDecl.{ActorDecl}
 use Rattle.script_lang.specs.declared.script.Statement.{Statement}
 use Rattle.script_lang.specs.declared.script.Statement.TheVariants.{Close, Open, Sync, Write}
 use Rattle.outcomes.specs.Data.{bytes_of}
-use Rattle.story.specs.Performers.{told_at}
-use Rattle.play_laws.specs.Counting.{CountWrites, TellCounts, TellsCount, written_after}
+use Rattle.mount_model.specs.Performers.{told_at}
+use Rattle.headline_laws.specs.Counting.{CountWrites, TellCounts, TellsCount, written_after}
 use Rattle.headline.specs.Run.{IsLine, Phased, Run, Says, Told, before, beside, own, phased, surely_before, told}
 use Rattle.headline.specs.Writers.{Account, account, account_of, cap_of, after_line, made_room, nothing, one_more, told_of}
 use Rattle.headline.specs.Changes.{Writing, id_of, in_doubt, none, unsure, writer, writer_at, writing_after, writing_next}
 use Rattle.headline.specs.Kinds.{IsOfKind}
 use Rattle.plain_file.proofs.Facts.{Among}
-use Rattle.gathering.proofs.Facts.{among, is_among}
+use Rattle.reader_laws.proofs.Gathered.Facts.{among, is_among}
 use Rattle.headline_laws.proofs.OrderlyLines.Places.{actors, actors_whose, own_split}
 
 -- ---- one line
@@ -192,7 +192,7 @@ line_in : (run : Run) (t : Told) (count : ℕ) → Says run t (line.Synced count
 line_in run t count (inl is) = is.is_line
 line_in run t count (inr is) = is.is_line
 
--- The field `synced` of the headline, from its field `kinds` and the law of play_laws.
+-- The field `synced` of the headline, from its field `kinds` and the law of the lines of a play.
 pub synced_tells : (run : Run) → CountWrites run.script run.lines
     → ((t : Told) → IsLine run t → IsOfKind t.statement t.outcome)
     → ((t : Told) → IsLine run t → (declared : ActorDecl) × (slice_get run.script.actors t.actor ≡ Some declared))

@@ -3,11 +3,11 @@ use Rattle.std.proofs.Common.{◌≡◌, inl, inr, ℕ, List, [], ◌∷◌, ◌
 use Rattle.std.specs.Prelude.{◌==◌, Result}
 use Rattle.std.proofs.lemmas.List.Elements.{filter-append}
 use Rattle.std.proofs.lemmas.List.{append-nil}
-use Rattle.story.specs.Process.{asks, ends, pauses, shares, tells}
-use Rattle.story.specs.Plays.{Plays, PlaysAll}
+use Rattle.mount_model.specs.Process.{asks, ends, pauses, shares, tells}
+use Rattle.mount_model.specs.Plays.{Plays, PlaysAll}
 use Rattle.mount_model.specs.History.{Event}
 use Rattle.mount_model.specs.State.{State}
-use Rattle.flow.specs.declared.stuck.Stuck.{Stuck}
+use Rattle.mount_model.specs.declared.stuck.Stuck.{Stuck}
 use Rattle.index_reader.specs.declared.sharing.Share.{Share}
 use Rattle.script_lang.specs.declared.line.Line.{Line}
 use Rattle.script_lang.specs.declared.script.Numbered.{Numbered}

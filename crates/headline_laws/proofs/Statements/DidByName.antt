@@ -1,7 +1,7 @@
 -- What each statement on a whole file does, whatever is replied.
 use Rattle.std.proofs.Common.{ℕ, List, [], Option}
 use Rattle.std.specs.Prelude.{⊤, Result, Ok, Err}
-use Rattle.flow.specs.declared.stuck.Stuck.{Stuck}
+use Rattle.mount_model.specs.declared.stuck.Stuck.{Stuck}
 use Rattle.script_lang.specs.declared.line.Outcome.TheVariants as line
 use Rattle.script_lang.specs.declared.script.Statement.TheVariants.{Flatten, Ls, Recover, Rename, Stat, Trunc}
 use Rattle.attr_flow.specs.declared.attr.Attr.{Attr}

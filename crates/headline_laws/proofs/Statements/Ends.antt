@@ -1,11 +1,11 @@
 -- How a statement ends, whatever is replied: what holds at each of its ends.
 use Rattle.std.proofs.Common.{◌≡◌, ◌≢◌, List, Bool, true, false, Option, Some, None, refl}
 use Rattle.std.specs.Prelude.{⊤, Result, if◌then◌else◌}
-use Rattle.story.specs.Program.{Program, done, ask, followed_by}
-use Rattle.story.specs.Process.{ends, pauses, tells, asks, shares}
+use Rattle.mount_model.specs.Program.{Program, done, ask, followed_by}
+use Rattle.mount_model.specs.Process.{ends, pauses, tells, asks, shares}
 use Rattle.mount_model.specs.declared.call.Call.{Call}
 use Rattle.mount_model.specs.declared.reply.Reply.{Reply}
-use Rattle.flow.specs.declared.stuck.Stuck.{Stuck}
+use Rattle.mount_model.specs.declared.stuck.Stuck.{Stuck}
 use Rattle.index_reader.specs.declared.sharing.Share.{Share}
 use Rattle.actor_core.specs.declared.kept.Stop.{Stop}
 use Rattle.actor_core.specs.Endings.{Ending}

@@ -4,8 +4,8 @@ use Rattle.std.specs.Prelude.{⊤}
 use Rattle.mount_model.specs.declared.call.Call.TheVariants.{Enter}
 use Rattle.mount_model.specs.declared.reply.Reply.TheVariants.{Entered}
 use Rattle.mount_model.specs.History.{Event}
-use Rattle.flow.specs.Running.{unbroken}
-use Rattle.gathering.specs.Moments.{Dropping, Moment}
+use Rattle.mount_model.specs.Running.{unbroken}
+use Rattle.reader_laws.specs.Moments.{Dropping, Moment}
 use Rattle.script_lang.specs.declared.line.Outcome.{Outcome}
 use Rattle.script_lang.specs.declared.line.Outcome.TheVariants as line
 use Rattle.script_lang.specs.declared.line.Why.{Why}
@@ -13,12 +13,12 @@ use Rattle.script_lang.specs.declared.line.Why.TheVariants.{AlreadyOpen}
 use Rattle.script_lang.specs.declared.script.Statement.{Statement}
 use Rattle.script_lang.specs.declared.script.Statement.TheVariants.{Close, Open, Sync, Write}
 use Rattle.outcomes.specs.Data.{bytes_of}
-use Rattle.play_laws.specs.Ending.{DoesNothing}
-use Rattle.play_laws.specs.OneFile.{OneFile}
-use Rattle.play_laws.specs.OneWriter.{OneWriter, OpensOneWriter, one_more}
-use Rattle.play_laws.specs.Opening.{Stretch}
-use Rattle.play_laws.specs.Showing.{Shows}
-use Rattle.play_laws.specs.Writing.{ShowsClosed, ShowsNoWriting, ShowsSynced, ShowsWriting, ShowsWritten, StaysOpen, TellsOfNoWriter}
+use Rattle.headline_laws.specs.Ending.{DoesNothing}
+use Rattle.headline_laws.specs.OneFile.{OneFile}
+use Rattle.headline_laws.specs.OneWriter.{OneWriter, OpensOneWriter, one_more}
+use Rattle.headline_laws.specs.Opening.{Stretch}
+use Rattle.headline_laws.specs.Showing.{Shows}
+use Rattle.headline_laws.specs.Writing.{ShowsClosed, ShowsNoWriting, ShowsSynced, ShowsWriting, ShowsWritten, StaysOpen, TellsOfNoWriter}
 use Rattle.headline.specs.Run.{Told}
 use Rattle.headline.specs.Files.{reader_next}
 use Rattle.headline.specs.Changes.{Writing, after_close, after_open, id_of, in_doubt, none, unsure, writer, writing_next}

@@ -5,7 +5,7 @@ use Rattle.std.proofs.lemmas.List.Elements.{All-head, All-tail}
 use Rattle.plfs_types.specs.declared.entries.Entry.{Entry}
 use Rattle.store_api.specs.declared.step.Answer.TheVariants.{Made}
 use Rattle.store_api.specs.declared.store.Trouble.TheVariants as trouble
-use Rattle.story.specs.Program.{Program, ask, done}
+use Rattle.mount_model.specs.Program.{Program, ask, done}
 use Rattle.mount_model.specs.declared.call.Ask.{Ask}
 use Rattle.mount_model.specs.declared.call.Call.{Call}
 use Rattle.mount_model.specs.declared.call.Call.TheVariants as call
@@ -24,15 +24,15 @@ use Rattle.mount_model.specs.Table.{only, row_of}
 use Rattle.mount_model.specs.Writing.{WritesAt, stamp_at, write_check, write_outcome, wrote as with_write}
 use Rattle.mount_model.proofs.Facts.{IsHeld, on_writer, row_of-with_row}
 use Rattle.mount_sound.specs.Owed.{IsLawful}
-use Rattle.flow.specs.Running.{unbroken}
+use Rattle.mount_model.specs.Running.{unbroken}
 use Rattle.writer_flow.specs.declared.handle.WriterHandle.{WriterHandle}
 use Rattle.writer_flow.specs.Handle.{flushed_of}
 use Rattle.writer_flow.specs.Syncing.{if_log_synced, if_synced, sync_program, syncs_index}
 use Rattle.writer_flow.specs.Writing.{if_flushed, if_wrote, write_program, writes}
 use Rattle.writer_laws.specs.Waiting.{LeavesAlone, LetsBe}
 use Rattle.writer_laws.proofs.Stops.{spared_row, whole_answers}
-use Rattle.gathering.specs.Moments.{Moment, moment_after, next_moment}
-use Rattle.gathering.proofs.Facts.{legal_first, legal_rest, moment-append}
+use Rattle.reader_laws.specs.Moments.{Moment, moment_after, next_moment}
+use Rattle.reader_laws.proofs.Gathered.Facts.{legal_first, legal_rest, moment-append}
 use Rattle.script_lang.specs.declared.line.Why.TheVariants.{NotOpen}
 use Rattle.actor_core.specs.declared.kept.Kept.{Kept}
 use Rattle.actor_core.specs.declared.kept.Stop.{Stop}
@@ -40,7 +40,7 @@ use Rattle.actor_core.specs.Endings.{Ending, refused, stopped, synced, wrote, wr
 use Rattle.actor_core.specs.Stopping.{carried, is_due, one_nearer}
 use Rattle.actor_core.specs.Work.{finishes}
 use Rattle.actor_core.specs.Writers.{syncs, writes as writes_statement, writes_bytes}
-use Rattle.play_laws.proofs.Facts.{ComesTo, lets_none}
+use Rattle.headline_laws.proofs.Plays.Facts.{ComesTo, lets_none}
 use Rattle.headline_laws.proofs.Story.Opened.{unbroken_ask}
 use Rattle.headline_laws.proofs.Trees.Openings.{IsOpenNow}
 

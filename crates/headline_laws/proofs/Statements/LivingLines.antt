@@ -7,10 +7,10 @@ use Rattle.mount_model.specs.Table.{is_live}
 use Rattle.mount_model.proofs.Facts.{IsOnNoWriter}
 use Rattle.mount_sound.specs.Owed.{IsLawful}
 use Rattle.writer_flow.specs.declared.handle.WriterHandle.{WriterHandle}
-use Rattle.flow.specs.Running.{Runs}
+use Rattle.mount_model.specs.Running.{Runs}
 use Rattle.writer_flow.specs.Opening.{open_program}
-use Rattle.gathering.specs.Moments.{Dropping, IsSoundAt, Moment, moment_after, next_moment}
-use Rattle.gathering.proofs.Facts.{legal_first, legal_rest, moment-append}
+use Rattle.reader_laws.specs.Moments.{Dropping, IsSoundAt, Moment, moment_after, next_moment}
+use Rattle.reader_laws.proofs.Gathered.Facts.{legal_first, legal_rest, moment-append}
 use Rattle.script_lang.specs.declared.line.Outcome.TheVariants as line
 use Rattle.script_lang.specs.declared.script.Statement.{Statement}
 use Rattle.script_lang.specs.declared.script.Statement.TheVariants as say
@@ -18,9 +18,9 @@ use Rattle.outcomes.specs.Data.{bytes_of}
 use Rattle.actor_core.specs.declared.kept.Kept.{Kept}
 use Rattle.actor_core.specs.Statements.{disarmed, work_of}
 use Rattle.actor_core.specs.Writers.{syncs, writes as writes_statement}
-use Rattle.play_laws.specs.OneFile.{OneFile}
-use Rattle.play_laws.specs.OneWriter.{OneWriter}
-use Rattle.play_laws.proofs.Facts.{ComesTo, GoesSo, IsSparing, KeepsIts, LetsUpTo, Next, breaks, came_up_to, lets, lets_none, next_first, statement_spares}
+use Rattle.headline_laws.specs.OneFile.{OneFile}
+use Rattle.headline_laws.specs.OneWriter.{OneWriter}
+use Rattle.headline_laws.proofs.Plays.Facts.{ComesTo, GoesSo, IsSparing, KeepsIts, LetsUpTo, Next, breaks, came_up_to, lets, lets_none, next_first, statement_spares}
 use Rattle.headline.specs.Run.{Told}
 use Rattle.headline.specs.Writers.{Account, told_of}
 use Rattle.headline_laws.proofs.Contents.Entering.{never_twice, opens_in}
@@ -49,7 +49,7 @@ module _ (m : Moment) (sound : IsSoundAt m) (n : ℕ) (history : List Event) (bl
   Open done = IsOpenNow n d.writer (moment_after m done).state
 
   -- while its actor makes no call
-  idle_open : (done later rest : List Event) → history ≡ later ++ rest → Idles n history blocks done later → Open done → Open later
+  pub idle_open : (done later rest : List Event) → history ≡ later ++ rest → Idles n history blocks done later → Open done → Open later
   idle_open done later rest is i o =
       let ends : moment_after (moment_after m done) i.idle ≡ moment_after m later = sym (moment-append m done i.idle) ∙ ap (moment_after m) (sym i.is) in
       let lawful : IsLawful (moment_after m done).state i.idle = legal_rest m done i.idle (legal_first m (done ++ i.idle) rest (subst (IsLawful m.state) (is ∙ ap (λ z. z ++ rest) i.is) whole.lawful)) in
@@ -107,7 +107,7 @@ module _ (m : Moment) (sound : IsSoundAt m) (n : ℕ) (history : List Event) (bl
       by_statement say.Close is unclosed = absurd (unclosed refl)
       by_statement z is unclosed = spared_stays z is tt
 
-      line_stays : (t.statement ≡ say.Close → ⊥) → p.e.kept.gone ≡ false → Open (p.earlier ++ p.mine)
+      pub line_stays : (t.statement ≡ say.Close → ⊥) → p.e.kept.gone ≡ false → Open (p.earlier ++ p.mine)
       line_stays unclosed goes_on = by (by_statement t.statement refl unclosed)
         where
           by : Stays → Open (p.earlier ++ p.mine)

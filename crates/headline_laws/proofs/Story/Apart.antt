@@ -12,10 +12,10 @@ use Rattle.script_lang.specs.Ranges.{FitsScript}
 use Rattle.script_lang.specs.declared.script.ActorDecl.{ActorDecl}
 use Rattle.mount_model.specs.declared.call.Ask.{Ask}
 use Rattle.mount_model.specs.declared.reply.Reply.{Reply}
-use Rattle.story.specs.MakesCalls.{Role, callers, one_history}
-use Rattle.story.specs.Performers.{told_at}
-use Rattle.story.specs.Plays.{PlaysAll}
-use Rattle.story.specs.Process.{ends}
+use Rattle.mount_model.specs.MakesCalls.{Role, callers, one_history}
+use Rattle.mount_model.specs.Performers.{told_at}
+use Rattle.mount_model.specs.Plays.{PlaysAll}
+use Rattle.mount_model.specs.Process.{ends}
 use Rattle.actor_core.specs.declared.kept.Kept.{Kept}
 use Rattle.actor_core.specs.Progress.{fresh}
 use Rattle.run_core.specs.Cast.{statements_in}
@@ -25,8 +25,8 @@ use Rattle.run_core.specs.Written.{whose}
 use Rattle.headline.specs.Writers.{cap_of, host_of}
 use Rattle.headline.specs.Run.{IsLine, Phased, Run, Told, before, own, phased, surely_before, told}
 use Rattle.plain_file.proofs.Facts.{Among}
-use Rattle.gathering.proofs.Facts.{among}
-use Rattle.play_laws.proofs.Facts.{AllOf, its_role, its_workers}
+use Rattle.reader_laws.proofs.Gathered.Facts.{among}
+use Rattle.headline_laws.proofs.Plays.Facts.{AllOf, its_role, its_workers}
 use Rattle.headline_laws.proofs.OrderlyLines.Orderly.{plays_here}
 use Rattle.headline_laws.proofs.Story.Parts.{HaveParts, LinePart, ToldParts, begins, line_from, line_to, own_parts, own_phased, part_at, parts_at, phases_apart, through_parts}
 use Rattle.headline_laws.proofs.OrderlyLines.Places.{actors_whose, own_split, statements_phased}

@@ -1,53 +1,53 @@
 -- Each call of the history that makes a container, writes, truncates or renames is one of an actor, made in the part of one of its lines, whose statement may ask it.
 use Rattle.std.proofs.Common.{◌≡◌, ◌≤◌, ◌⊎◌, ◌+◌, inl, inr, ℕ, zero, suc, Bool, true, false, List, [], ◌∷◌, ◌++◌, length, Option, Some, None, refl, sym, ap, ◌∙◌, subst, arith, append_assoc, length-append, nat_eq, if◌then◌else◌}
-use Rattle.std.specs.Prelude.{⊤, slice_get}
-use Rattle.std.specs.List.{AllByRecursion, Any}
+use Rattle.std.specs.Prelude.{slice_get}
+use Rattle.std.specs.List.{Any}
 use Rattle.std.proofs.lemmas.Bool.Decides.{nat_tests}
 use Rattle.std.proofs.lemmas.Option.{same_Some}
 use Rattle.turn_object.specs.Callers.{IsOwn, made_by}
 use Rattle.turn_object.specs.Front.{KeepsIn}
-use Rattle.story.specs.Calls.{AreCallsOf, AreCallsOfEach}
-use Rattle.story.specs.MakesCalls.{EachPlays, Role, callers}
-use Rattle.story.specs.Performers.{left_of, told_at, told_by_each}
-use Rattle.story.specs.Plays.{Plays, PlaysAll}
-use Rattle.story.specs.Process.{asks, ends, pauses, shares, tells}
-use Rattle.story.specs.Program.{AsksOnly, Program, ask, done}
-use Rattle.story.proofs.Facts.{entries_both, entries_first}
+use Rattle.mount_model.specs.MakesCalls.{EachPlays, Role, callers}
+use Rattle.mount_model.specs.Performers.{left_of, told_at, told_by_each}
+use Rattle.mount_model.specs.Plays.{PlaysAll}
+use Rattle.mount_model.specs.Process.{asks, ends, pauses, shares, tells}
+use Rattle.mount_model.proofs.Stories.Facts.{entries_both, entries_first}
 use Rattle.mount_model.specs.declared.call.Ask.{Ask}
 use Rattle.mount_model.specs.declared.call.Call.{Call}
 use Rattle.mount_model.specs.declared.reply.Reply.{Reply}
 use Rattle.mount_model.specs.History.{Event}
 use Rattle.mount_model.specs.State.{State}
-use Rattle.gathering.specs.Moments.{Dropping, IsSoundAt, Moment}
-use Rattle.gathering.proofs.Facts.{all_at, any_found, is_among}
+use Rattle.reader_laws.specs.Moments.{Dropping, IsSoundAt, Moment}
+use Rattle.reader_laws.proofs.Gathered.Facts.{all_at, among, any_found, is_among}
 use Rattle.plain_file.proofs.Facts.{Among}
 use Rattle.script_lang.specs.Ranges.{FitsScript}
 use Rattle.script_lang.specs.declared.line.Line.{Line}
 use Rattle.script_lang.specs.declared.line.Outcome.TheVariants as outcome
 use Rattle.script_lang.specs.declared.script.ActorDecl.{ActorDecl}
-use Rattle.script_lang.specs.declared.script.Numbered.{Numbered}
 use Rattle.script_lang.specs.declared.script.Phase.{Phase}
 use Rattle.actor_core.specs.declared.kept.Kept.{Kept}
 use Rattle.actor_core.specs.Endings.{Ending}
-use Rattle.actor_core.specs.Owed.{EachAsksOnly}
 use Rattle.actor_core.specs.Progress.{fresh}
 use Rattle.actor_core.specs.Statements.{work_of}
 use Rattle.actor_core.specs.Work.{Work}
 use Rattle.run_core.specs.Cast.{cast_from, statements_in}
-use Rattle.run_core.specs.Course.{Course, course_of, one_by_one, own as own_statements, then_line, through}
+use Rattle.run_core.specs.Course.{course_of}
 use Rattle.run_core.specs.Play.{IsRight}
 use Rattle.run_core.specs.Written.{whose}
-use Rattle.play_laws.proofs.Facts.{Anyhow, ComesTo, GoesSo, IsQuiet, IsQuietly, MayAsk, Next, either_goes, statement_asks}
-use Rattle.play_laws.specs.OneFile.{OneFile}
-use Rattle.play_laws.specs.OneWriter.{OneWriter}
-use Rattle.play_laws.specs.Opening.{Stretch}
-use Rattle.play_laws.specs.Writing.{ShowsWriting}
-use Rattle.headline.specs.Run.{IsLine, Run, Told, own, told}
+use Rattle.headline_laws.proofs.Plays.Facts.{Anyhow, ComesTo, GoesSo, IsQuiet, IsQuietly, MayAsk, Next, either_goes, statement_asks}
+use Rattle.headline_laws.specs.OneFile.{OneFile}
+use Rattle.headline_laws.specs.OneWriter.{OneWriter}
+use Rattle.headline_laws.specs.Opening.{Stretch}
+use Rattle.headline_laws.specs.Writing.{ShowsWriting}
+use Rattle.headline.specs.Run.{IsLine, Run, Told, own, phased, told}
 use Rattle.headline.specs.Files.{reader_next}
+use Rattle.headline.specs.Writers.{host_of}
 use Rattle.headline.specs.Changes.{Writing, none, writing_next}
-use Rattle.headline_laws.proofs.OrderlyLines.Answering.{among_filter}
+use Rattle.headline_laws.proofs.OrderlyLines.Answering.{among_filter, among_own, own_actor, own_rise}
+use Rattle.headline_laws.proofs.OrderlyLines.Places.{Rise, among_later, beside_rise}
+use Rattle.headline_laws.proofs.Statements.Hosts.{SameHost, comes_so, statement_host}
 use Rattle.headline_laws.proofs.Statements.Known.{Known, known_next, known_waits, writer_step}
 use Rattle.headline_laws.proofs.Story.Lines.{AnyLine, HasRooms, ShownLine, chain_here, container, nothing_known, reads_in, whole_history}
+use Rattle.headline_laws.proofs.Story.Quiet.{AllQuiet, AreQuiet, all_quiet, through_quiet}
 use Rattle.headline_laws.proofs.Story.Shown.{ShownEach}
 
 -- ---- an event among others
@@ -103,71 +103,6 @@ module _ (n : ℕ) (these : Call → Type 0) (good : Ending → Type 0) where
         ]
       ]
   came_asks (shares programs k alone) mine spent e goes (inr comes) pre ev post is its = came_asks alone mine spent e goes.1 comes pre ev post is its
-
--- ---- workers only look
-
-abbrev AreQuiet : List Event → Type 0
-AreQuiet calls = AllByRecursion (λ (e : Event). IsQuietly e.ask) calls
-
-abbrev AllQuiet : List (List Event) → Type 0
-AllQuiet workers = AllByRecursion AreQuiet workers
-
-calls_quiet : {R : Type 0} (p : Program Ask Reply R) (calls : List Event) (result : R) → AsksOnly IsQuietly p → AreCallsOf p calls result → AreQuiet calls
-calls_quiet (done r) calls result quiet are = subst AreQuiet (sym are.0) tt
-calls_quiet (ask q k) [] result quiet are = absurd are
-calls_quiet (ask q k) (e ∷ calls) result quiet are = (subst IsQuietly (sym are.0) quiet.0, calls_quiet (k e.reply) calls result (quiet.1 e.reply) are.1)
-
-each_quiet : {R : Type 0} (ps : List (Program Ask Reply R)) (calls : List (List Event)) (results : List R) → EachAsksOnly IsQuietly ps → AreCallsOfEach ps calls results → AllQuiet calls
-each_quiet [] [] [] quiet are = tt
-each_quiet [] [] (x ∷ xs) quiet are = absurd are
-each_quiet [] (c ∷ calls) xs quiet are = absurd are
-each_quiet (p ∷ ps) [] xs quiet are = absurd are
-each_quiet (p ∷ ps) (c ∷ calls) [] quiet are = absurd are
-each_quiet (p ∷ ps) (c ∷ calls) (x ∷ xs) quiet are = (calls_quiet p c x quiet.0 are.0, each_quiet ps calls xs quiet.1 are.1)
-
-both_quiet : (xs ys : List (List Event)) → AllQuiet xs → AllQuiet ys → AllQuiet (xs ++ ys)
-both_quiet [] ys a b = b
-both_quiet (x ∷ xs) ys a b = (a.0, both_quiet xs ys a.1 b)
-
--- the workers of a course ask quietly
-abbrev CourseQuiet : Course → Type 0
-CourseQuiet ends = ⊤
-CourseQuiet (pauses p) = CourseQuiet p
-CourseQuiet (tells line p) = CourseQuiet p
-CourseQuiet (asks q k) = (reply : Reply) → CourseQuiet (k reply)
-CourseQuiet (shares programs k alone) = EachAsksOnly IsQuietly programs × ((results : List _) → CourseQuiet (k results)) × CourseQuiet alone
-
-then_quiet : (these : Call → Type 0) (good : Ending → Type 0) (number : ℕ) (next : Kept → Course) (work : Work) → GoesSo these good work → ((kept : Kept) → CourseQuiet (next kept)) → CourseQuiet (then_line number next work)
-then_quiet these good number next ends goes later = tt
-then_quiet these good number next (pauses work) goes later = absurd goes
-then_quiet these good number next (tells e work) goes later = later e.kept
-then_quiet these good number next (asks q k) goes later = λ reply. then_quiet these good number next (k reply) (either_goes these good q.stop (k reply) (goes.1 reply)) later
-then_quiet these good number next (shares programs k alone) goes later = (goes.2, (λ results. then_quiet these good number next (k results) (goes.0 results) later), then_quiet these good number next alone goes.1 later)
-
-one_quiet : (ss : List Numbered) (next : Kept → Course) (kept : Kept) → ((after : Kept) → CourseQuiet (next after)) → CourseQuiet (one_by_one ss next kept)
-one_quiet [] next kept later = later kept
-one_quiet (s ∷ ss) next kept later = then_quiet (MayAsk kept s.statement) Anyhow s.line (λ after. one_by_one ss next after) (work_of kept s.statement) (statement_asks kept s.statement) (λ after. one_quiet ss next after later)
-
-through_quiet : (actor : ℕ) (phases : List Phase) (kept : Kept) → CourseQuiet (through actor phases kept)
-through_quiet actor [] kept = tt
-through_quiet actor (phase ∷ phases) kept = one_quiet (own_statements actor phase.statements) (λ after. pauses (through actor phases after)) kept (λ after. through_quiet actor phases after)
-
-module _ (n : ℕ) where
-  plays_quiet : (p : Course) (part : List Event) (workers : List (List Event)) (lines : List Line) (left : Course) → CourseQuiet p → Plays n p part workers lines left → AllQuiet workers × CourseQuiet left
-  plays_quiet ends part workers lines left quiet plays = (subst AllQuiet (sym plays.0.no_workers) tt, subst CourseQuiet (sym plays.1) tt)
-  plays_quiet (pauses p) part workers lines left quiet plays = (subst AllQuiet (sym plays.0.no_workers) tt, subst CourseQuiet (sym plays.1) quiet)
-  plays_quiet (tells line p) part workers lines left quiet plays = plays_quiet p part workers plays.0 left quiet plays.2
-  plays_quiet (asks q k) part workers lines left quiet m = plays_quiet (k m.call.reply) m.after workers lines left (quiet m.call.reply) m.goes_on
-  plays_quiet (shares programs k alone) part workers lines left quiet (inl w) =
-      let more = plays_quiet (k w.results) w.after w.later lines left (quiet.1 w.results) w.goes_on in
-      (subst AllQuiet (sym w.are) (both_quiet w.these w.later (each_quiet programs w.these w.results quiet.0 w.made) more.0), more.1)
-  plays_quiet (shares programs k alone) part workers lines left quiet (inr plays) = plays_quiet alone part workers lines left quiet.2 plays
-
-  all_quiet : (p : Course) (blocks : List (List Event)) (workers : List (List Event)) (lines : List Line) → CourseQuiet p → PlaysAll n p blocks workers lines ends → AllQuiet workers
-  all_quiet p [] workers lines quiet plays = subst AllQuiet (sym plays.0) tt
-  all_quiet p (block ∷ blocks) workers lines quiet m =
-      let one = plays_quiet p block m.these m.told m.left quiet m.plays in
-      subst AllQuiet (sym m.are) (both_quiet m.these m.later one.0 (all_quiet m.left blocks m.later m.more one.1 m.goes_on))
 
 -- ---- who made a call
 
@@ -303,6 +238,13 @@ opened_next Good m n stretch t old new good shows had x is = elim (writer_step m
 ]
 
 module _ (m : Moment) (sound : IsSoundAt m) (n : ℕ) (history : List Event) (blocks : List (List Event)) (whole : Next m [] history) (nothing : ℕ) where
+  -- the part of a line ends by there
+  pub record EndsBy (of : Told → ℕ) (q : Told) (limit : ℕ) : Type 0 where
+    pub reader : Option Told
+    pub writing : Writing
+    pub line : ShownLine m sound n history blocks whole nothing of reader writing q
+    pub ends : length line.part.earlier + length line.part.mine ≤ limit
+
   -- the event is in the part of this line
   pub record InLine (Good : Told → Type 0) (of : Told → ℕ) (pre : List Event) (e : Event) (ts : List Told) : Type 0 where
     pub t : Told
@@ -315,47 +257,73 @@ module _ (m : Moment) (sound : IsSoundAt m) (n : ℕ) (history : List Event) (bl
     pub in_it : line.part.mine ≡ first ++ e ∷ later
     pub before_is : pre ≡ line.part.earlier ++ first
     pub opened : (x : OneWriter) → line.writer ≡ Some x → OpenedBy Good x
+    -- the parts of the lines before it end before it
+    pub sooner : (q : Told) → Among q ts → EndsBy of q (length line.part.earlier) ⊎ (t.place ≤ q.place)
+
+  at_or_behind : (A : Told → Type 0) (place : ℕ) (t : Told) (ts : List Told) → Rise place (t ∷ ts) → (q : Told) → Among q (t ∷ ts) → A q ⊎ (t.place ≤ q.place)
+  at_or_behind A place t ts rise q (inl same) = let is : q.place ≡ t.place = ap (λ (x : Told). x.place) same in inr (omega (arith, is))
+  at_or_behind A place t ts rise q (inr at) = let far : t.place + 1 ≤ q.place = among_later (t.place + 1) ts q rise.1 at in inr (omega (arith, far))
 
   find_line : (Good : Told → Type 0) (of : Told → ℕ) (sofar : List Event) (kept : Kept) (file : Option OneFile) (writer : Option OneWriter) (ts : List Told) (r : Option Told) (w : Writing) (each : ShownEach m sound n history blocks whole sofar kept file writer ts) → HasRooms m sound n history blocks whole nothing of sofar kept file writer ts each → Known of n sofar r w file writer
       → ((t : Told) → Among t ts → Good t) → ((x : OneWriter) → writer ≡ Some x → OpenedBy Good x)
-      → (pre : List Event) (e : Event) (post : List Event) → history ≡ pre ++ e ∷ post → e.caller ≡ n → length sofar ≤ length pre → InLine Good of pre e ts
-  find_line Good of sofar kept file writer [] r w idle rooms_are k all had pre e post is its far = elim (either_part sofar idle.idle pre e post (sym idle.is ∙ is)) as (λ _. InLine Good of pre e []) [
+      → (place : ℕ) → Rise place ts → (pre : List Event) (e : Event) (post : List Event) → history ≡ pre ++ e ∷ post → e.caller ≡ n → length sofar ≤ length pre → (f : InLine Good of pre e ts) × (length sofar ≤ length f.line.part.earlier) × (f.line.kept.host ≡ kept.host)
+  find_line Good of sofar kept file writer [] r w idle rooms_are k all had place rise pre e post is its far = elim (either_part sofar idle.idle pre e post (sym idle.is ∙ is)) as (λ _. (f : InLine Good of pre e []) × (length sofar ≤ length f.line.part.earlier) × (f.line.kept.host ≡ kept.host)) [
     | inl (u, front, later) ↦ let long = ap length front ∙ length-append pre (e ∷ u) in absurd (omega (arith, long, far))
     | inr (u, front, later) ↦ absurd (none_there n idle.idle u e post later idle.none its)
   ]
-  find_line Good of sofar kept file writer (t ∷ ts) r w (p, says, idle, s, more) rooms_are k all had pre e post is its far =
+  find_line Good of sofar kept file writer (t ∷ ts) r w (p, says, idle, s, more) rooms_are k all had place rise pre e post is its far =
       let before : Known of n p.earlier r w file writer = subst (λ es. Known of n es r w file writer) (sym idle.is) (known_waits of n sofar idle.idle r w file writer k) in
       let after = known_next of m n p.earlier s.front s.rest r w t file s.new writer s.new_writer s.shows s.writes (reads_in of m n (record { before = p.earlier; events = s.front }) nothing file s.new s.new_writer t t.statement t.outcome s.shows rooms_are.0) before in
-      elim (either_part p.earlier (p.mine ++ p.later) pre e post (sym p.split ∙ is)) as (λ _. InLine Good of pre e (t ∷ ts)) [
-        | inl (u, front, later) ↦ elim (either_part sofar idle.idle pre e u (sym idle.is ∙ front)) as (λ _. InLine Good of pre e (t ∷ ts)) [
+      let idles = ap length idle.is ∙ length-append sofar idle.idle in
+      let idle_long : length sofar ≤ length p.earlier = omega (arith, idles) in
+      elim (either_part p.earlier (p.mine ++ p.later) pre e post (sym p.split ∙ is)) as (λ _. (f : InLine Good of pre e (t ∷ ts)) × (length sofar ≤ length f.line.part.earlier) × (f.line.kept.host ≡ kept.host)) [
+        | inl (u, front, later) ↦ elim (either_part sofar idle.idle pre e u (sym idle.is ∙ front)) as (λ _. (f : InLine Good of pre e (t ∷ ts)) × (length sofar ≤ length f.line.part.earlier) × (f.line.kept.host ≡ kept.host)) [
           | inl (v, early, rest) ↦ let long = ap length early ∙ length-append pre (e ∷ v) in absurd (omega (arith, long, far))
           | inr (v, early, rest) ↦ absurd (none_there n idle.idle v e u rest idle.none its)
         ]
-        | inr (u, front, later) ↦ elim (either_part p.mine p.later u e post later) as (λ _. InLine Good of pre e (t ∷ ts)) [
-          | inl (v, inside, rest) ↦ record {
-            t = t;
-            at = inl refl;
-            reader = r;
-            writing = w;
-            line = record { kept = kept; file = file; writer = writer; part = p; says = says; shown = s; known = before; here = rooms_are.0 };
-            first = u;
-            later = v;
-            in_it = inside;
-            before_is = front;
-            opened = had;
-          }
+        | inr (u, front, later) ↦ elim (either_part p.mine p.later u e post later) as (λ _. (f : InLine Good of pre e (t ∷ ts)) × (length sofar ≤ length f.line.part.earlier) × (f.line.kept.host ≡ kept.host)) [
+          | inl (v, inside, rest) ↦ (
+            record {
+              t = t;
+              at = inl refl;
+              reader = r;
+              writing = w;
+              line = record { kept = kept; file = file; writer = writer; part = p; says = says; shown = s; known = before; here = rooms_are.0 };
+              first = u;
+              later = v;
+              in_it = inside;
+              before_is = front;
+              opened = had;
+              sooner = at_or_behind (λ q. EndsBy of q (length p.earlier)) place t ts rise;
+            },
+            idle_long,
+            refl,
+          )
           | inr (v, inside, rest) ↦
               let behind : pre ≡ (p.earlier ++ p.mine) ++ v = front ∙ ap (λ z. p.earlier ++ z) inside ∙ sym (append_assoc p.earlier p.mine v) in
               let long = ap length behind ∙ length-append (p.earlier ++ p.mine) v in
-              let f = find_line Good of (p.earlier ++ p.mine) p.e.kept s.new s.new_writer ts (reader_next r t t.outcome) (writing_next w t.statement t.outcome) more rooms_are.1 (subst (λ es. Known of n (p.earlier ++ es) (reader_next r t t.outcome) (writing_next w t.statement t.outcome) s.new s.new_writer) (sym s.split) after)
-              (λ q at. all q (inr at)) (opened_next Good m n (record { before = p.earlier; events = s.front }) t writer s.new_writer (all t (inl refl)) s.writes had) pre e post is its (omega (arith, long)) in
-              record { t = f.t; at = inr f.at; reader = f.reader; writing = f.writing; line = f.line; first = f.first; later = f.later; in_it = f.in_it; before_is = f.before_is; opened = f.opened }
+              let (f, far_on, hosts) = find_line Good of (p.earlier ++ p.mine) p.e.kept s.new s.new_writer ts (reader_next r t t.outcome) (writing_next w t.statement t.outcome) more rooms_are.1 (subst (λ es. Known of n (p.earlier ++ es) (reader_next r t t.outcome) (writing_next w t.statement t.outcome) s.new s.new_writer) (sym s.split) after)
+              (λ q at. all q (inr at)) (opened_next Good m n (record { before = p.earlier; events = s.front }) t writer s.new_writer (all t (inl refl)) s.writes had) (t.place + 1) rise.1 pre e post is its (omega (arith, long)) in
+              let both = length-append p.earlier p.mine in
+              let here : EndsBy of t (length f.line.part.earlier) = record { reader = r; writing = w; line = record { kept = kept; file = file; writer = writer; part = p; says = says; shown = s; known = before; here = rooms_are.0 }; ends = omega (arith, far_on, both) } in
+              (record { t = f.t; at = inr f.at; reader = f.reader; writing = f.writing; line = f.line; first = f.first; later = f.later; in_it = f.in_it; before_is = f.before_is; opened = f.opened; sooner = λ q at. first_or f.t q (length f.line.part.earlier) here at (f.sooner q) }, omega (arith, far_on, both, idle_long), hosts ∙ ap (λ (x : ℕ × ℕ). x.0) (comes_so n (SameHost kept) (work_of kept t.statement) p.mine p.spent p.e (statement_host kept t.statement) p.comes))
         ]
       ]
+    where
+      first_or : (found q : Told) (limit : ℕ) → EndsBy of t limit → Among q (t ∷ ts) → (Among q ts → EndsBy of q limit ⊎ (found.place ≤ q.place)) → EndsBy of q limit ⊎ (found.place ≤ q.place)
+      first_or found q limit here (inl same) rest = inl (subst (λ x. EndsBy of x limit) (sym same) here)
+      first_or found q limit here (inr later) rest = rest later
 
 -- ---- the law of this file
 
 module _ (run : Run) (m : Moment) (end : State) (fits : FitsScript run.script) (sound : IsSoundAt m) (right : IsRight run.script m.state run.lines end) where
+  -- the part of a line ends by there
+  pub record LineBy (q : Told) (limit : ℕ) : Type 0 where
+    pub reader : Option Told
+    pub writing : Writing
+    pub line : AnyLine run m end fits sound right reader writing q
+    pub ends : length line.line.part.earlier + length line.line.part.mine ≤ limit
+
   -- the call was made in the part of this line, by its actor, whose statement may ask it
   pub record Attributed (pre : List Event) (e : Event) : Type 0 where
     pub t : Told
@@ -370,6 +338,9 @@ module _ (run : Run) (m : Moment) (end : State) (fits : FitsScript run.script) (
     pub own : e.caller ≡ line.number
     pub opened : (x : OneWriter) → line.line.writer ≡ Some x → OpenedBy (IsLine run) x
     pub asks : MayAsk line.line.kept t.statement e.ask.call
+    pub its_host : line.line.kept.host ≡ host_of (slice_get run.script.actors t.actor)
+    -- the parts of the actor's lines before it end before it
+    pub sooner : (q : Told) → IsLine run q → q.actor ≡ t.actor → LineBy q (length line.line.part.earlier) ⊎ (t.place ≤ q.place)
 
   own_line : (actor : ℕ) (ts : List Told) (t : Told) → Among t (own actor ts) → Among t ts
   own_line actor ts t at = among_filter (λ (s : Told). nat_eq s.actor actor) ts t at
@@ -380,8 +351,9 @@ module _ (run : Run) (m : Moment) (end : State) (fits : FitsScript run.script) (
       let c = chain_here run m end fits sound right o.place o.declared o.there in
       let n = c.parts.number in
       let its : e.caller ≡ n = o.own ∙ c.parts.is_role o.role o.role_there in
-      let f = find_line m sound n right.history right.calls.blocks (whole_history run m end fits sound right) (length run.after.rooms) (IsLine run) (container run m end fits sound right) [] c.parts.kept None None (own o.place (told run)) None none c.each c.rooms_are (nothing_known run m end fits sound right n)
-      (λ q at. is_among (told run) q (own_line o.place (told run) q at)) (λ x is. absurd (cc)) pre e post is its (omega arith) in
+      let (f, from, hosts) = find_line m sound n right.history right.calls.blocks (whole_history run m end fits sound right) (length run.after.rooms) (IsLine run) (container run m end fits sound right) [] c.parts.kept None None (own o.place (told run)) None none c.each c.rooms_are (nothing_known run m end fits sound right n)
+      (λ q at. is_among (told run) q (own_line o.place (told run) q at)) (λ x is. absurd (cc)) 0 (own_rise o.place 0 (told run) (beside_rise 0 (phased 0 run.script.phases) run.lines)) pre e post is its (omega arith) in
+      let at_place : f.t.actor ≡ o.place = own_actor o.place (told run) f.t f.at in
       record {
         t = f.t;
         is_line = is_among (told run) f.t (own_line o.place (told run) f.t f.at);
@@ -395,4 +367,9 @@ module _ (run : Run) (m : Moment) (end : State) (fits : FitsScript run.script) (
         own = its;
         opened = f.opened;
         asks = came_asks n (MayAsk f.line.kept f.t.statement) Anyhow (work_of f.line.kept f.t.statement) f.line.part.mine f.line.part.spent f.line.part.e (statement_asks f.line.kept f.t.statement) f.line.part.comes f.first e f.later f.in_it its;
+        its_host = hosts ∙ c.parts.host ∙ ap (λ k. host_of (slice_get run.script.actors k)) (sym at_place);
+        sooner = λ q is_line same. elim (f.sooner q (subst (λ k. Among q (own k (told run))) (same ∙ at_place) (among_own (told run) q (among (told run) q is_line)))) as (λ _. LineBy q (length f.line.part.earlier) ⊎ (f.t.place ≤ q.place)) [
+          | inl l ↦ inl (record { reader = l.reader; writing = l.writing; line = record { number = n; line = l.line }; ends = l.ends })
+          | inr far ↦ inr far
+        ];
       }

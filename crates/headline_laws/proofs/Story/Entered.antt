@@ -16,8 +16,8 @@ use Rattle.mount_model.specs.State.{State, Table, last_id}
 use Rattle.mount_model.specs.Step.{Answers, IsStep}
 use Rattle.mount_model.proofs.Facts.{match_cases, step_place}
 use Rattle.mount_sound.specs.Owed.{IsLawful}
-use Rattle.flow.specs.Running.{unbroken}
-use Rattle.gathering.specs.Moments.{Dropping}
+use Rattle.mount_model.specs.Running.{unbroken}
+use Rattle.reader_laws.specs.Moments.{Dropping}
 use Rattle.writer_laws.proofs.Stops.{whole_answers}
 use Rattle.headline_laws.proofs.Statements.Known.{HasEntered}
 

@@ -4,11 +4,14 @@ use Rattle.std.specs.Prelude.{⊤, slice_get}
 use Rattle.std.specs.List.{AllByRecursion}
 use Rattle.std.proofs.lemmas.Bool.Decides.{nat_tests}
 use Rattle.std.proofs.lemmas.List.Elements.{recursion_from_All}
+use Rattle.turn_object.specs.Callers.{made_by}
+use Rattle.mount_model.specs.declared.call.Call.{Call}
+use Rattle.mount_model.specs.declared.call.Call.TheVariants.{Enter, Hold}
 use Rattle.mount_model.specs.History.{Event}
 use Rattle.mount_model.specs.State.{State}
-use Rattle.gathering.specs.Moments.{IsSoundAt, Moment}
+use Rattle.reader_laws.specs.Moments.{IsSoundAt, Moment}
 use Rattle.plain_file.proofs.Facts.{Among}
-use Rattle.gathering.proofs.Facts.{among}
+use Rattle.reader_laws.proofs.Gathered.Facts.{among}
 use Rattle.script_lang.specs.Ranges.{FitsNumbered, FitsPhase, FitsScript, FitsStatement}
 use Rattle.script_lang.specs.declared.line.Line.{Line}
 use Rattle.script_lang.specs.declared.line.Outcome.{Outcome}
@@ -17,14 +20,14 @@ use Rattle.script_lang.specs.declared.script.ActorDecl.{ActorDecl}
 use Rattle.script_lang.specs.declared.script.Numbered.{Numbered}
 use Rattle.script_lang.specs.declared.script.Phase.{Phase}
 use Rattle.script_lang.specs.declared.script.Statement.{Statement}
-use Rattle.script_lang.specs.declared.script.Statement.TheVariants.{Flatten, Recover, Rename, Stat, Trunc}
+use Rattle.script_lang.specs.declared.script.Statement.TheVariants.{Flatten, Open, Recover, Rename, Stat, Trunc}
 use Rattle.actor_core.specs.declared.kept.Kept.{Kept}
 use Rattle.run_core.specs.Play.{IsRight}
-use Rattle.play_laws.specs.OneFile.{OneFile}
-use Rattle.play_laws.specs.OneWriter.{OneWriter}
-use Rattle.play_laws.specs.Opening.{Stretch}
-use Rattle.play_laws.specs.Showing.{Shows}
-use Rattle.play_laws.proofs.Facts.{Keeps, Next, Writes}
+use Rattle.headline_laws.specs.OneFile.{OneFile}
+use Rattle.headline_laws.specs.OneWriter.{OneWriter}
+use Rattle.headline_laws.specs.Opening.{Stretch}
+use Rattle.headline_laws.specs.Showing.{Shows}
+use Rattle.headline_laws.proofs.Plays.Facts.{Keeps, Next, Writes}
 use Rattle.headline.specs.Run.{IsLine, Phased, Run, Told, before, beside, own, phased, surely_before, told}
 use Rattle.headline.specs.Files.{reader_after, reader_at, reader_next}
 use Rattle.headline.specs.Changes.{Writing, none, writing_after, writing_at, writing_next}
@@ -73,9 +76,38 @@ abbrev pub writer_room : ℕ → Option OneWriter → ℕ
 writer_room nothing None = nothing
 writer_room nothing (Some w) = w.dropping.room
 
+-- the container that the first of a caller's calls that holds asks for, or this number
+abbrev pub held_or : Call → ℕ → ℕ
+held_or (Hold room) later = room
+held_or call later = later
+
+abbrev pub first_held : ℕ → List Event → ℕ
+first_held nothing [] = nothing
+first_held nothing (e ∷ events) = held_or e.ask.call (first_held nothing events)
+
+abbrev pub held_room : ℕ → ℕ → List Event → ℕ
+held_room n nothing events = first_held nothing (made_by n events)
+
+-- and the one that the first that enters asks for
+abbrev pub entered_or : Call → ℕ → ℕ
+entered_or (Enter room host most) later = room
+entered_or call later = later
+
+abbrev pub first_entered : ℕ → List Event → ℕ
+first_entered nothing [] = nothing
+first_entered nothing (e ∷ events) = entered_or e.ask.call (first_entered nothing events)
+
+abbrev pub entered_room : ℕ → ℕ → List Event → ℕ
+entered_room n nothing events = first_entered nothing (made_by n events)
+
+-- a truncate that broke off speaks of the container that it held, and an opening of the one that it entered
 abbrev pub changed_room : (m : Moment) (n : ℕ) (stretch : Stretch) → ℕ → (file new : Option OneFile) (s : Statement) (o : Outcome) → Shows m n stretch file s o new → ℕ
 changed_room m n stretch nothing file new (Stat name) (line.Stat size stored shares truncs) shows = shows.1.0.room
 changed_room m n stretch nothing file new (Trunc name size) (line.Truncated stamp) shows = shows.1.change.room
+changed_room m n stretch nothing file new (Trunc name size) line.Fault shows = held_room n nothing stretch.events
+changed_room m n stretch nothing file new (Trunc name size) line.Stopped shows = held_room n nothing stretch.events
+changed_room m n stretch nothing file new (Open name) line.Fault shows = entered_room n nothing stretch.events
+changed_room m n stretch nothing file new (Open name) line.Stopped shows = entered_room n nothing stretch.events
 changed_room m n stretch nothing file new (Rename name to) line.Renamed shows = shows.1.change.room
 changed_room m n stretch nothing file new (Recover name) (line.Recovered buried alive hold) shows = shows.1.room
 changed_room m n stretch nothing file new (Flatten name) (line.Flattened id many cut) shows = shows.1.room

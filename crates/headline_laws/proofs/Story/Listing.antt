@@ -1,5 +1,5 @@
 -- What a call that names all containers tells: the logical names of the rooms, each once and in byte order.
-use Rattle.std.proofs.Common.{◌≡◌, ◌⊎◌, ◌||◌, inl, inr, ℕ, zero, suc, Bool, true, false, List, [], ◌∷◌, map, Option, Some, None, Result, Ok, Err, Less, refl, sym, ap, ◌∙◌, subst}
+use Rattle.std.proofs.Common.{◌≡◌, ◌⊎◌, ◌||◌, inl, inr, ℕ, zero, suc, Bool, true, false, List, [], ◌∷◌, map, Some, Result, Ok, Err, Less, refl, sym, ap, ◌∙◌, subst}
 use Rattle.std.specs.Prelude.{slice_get}
 use Rattle.std.specs.List.{AllByRecursion, list_any}
 use Rattle.std.proofs.lemmas.Option.{same_Some}
@@ -26,8 +26,8 @@ use Rattle.mount_model.specs.Paths.{Name}
 use Rattle.mount_model.specs.State.{State}
 use Rattle.mount_model.specs.declared.reply.Reply.{Reply}
 use Rattle.mount_model.specs.declared.reply.Reply.TheVariants.{Rooms}
-use Rattle.flow.specs.declared.stuck.Stuck.{Stuck}
-use Rattle.gathering.proofs.Facts.{among_listed}
+use Rattle.mount_model.specs.declared.stuck.Stuck.{Stuck}
+use Rattle.reader_laws.proofs.Gathered.Facts.{among_listed}
 use Rattle.actor_core.specs.Names.{logical_among, names_told}
 
 -- ---- lists of names

@@ -17,21 +17,21 @@ use Rattle.mount_model.specs.State.{State}
 use Rattle.mount_model.specs.Step.{IsStep}
 use Rattle.mount_sound.specs.Owed.{IsLawful}
 use Rattle.mount_sound.proofs.Facts.{GoesOn, OfEachAct, step_acts}
-use Rattle.gathering.specs.Moments.{IsSoundAt, Moment, moment_after}
-use Rattle.gathering.proofs.Facts.{follows, legal_first, legal_rest, sound_after}
+use Rattle.reader_laws.specs.Moments.{IsSoundAt, Moment, moment_after}
+use Rattle.reader_laws.proofs.Gathered.Facts.{follows, legal_first, legal_rest, sound_after}
 use Rattle.script_lang.specs.Ranges.{FitsScript}
 use Rattle.script_lang.specs.declared.line.Outcome.{Outcome}
 use Rattle.script_lang.specs.declared.line.Outcome.TheVariants as line
 use Rattle.script_lang.specs.declared.script.Statement.{Statement}
 use Rattle.script_lang.specs.declared.script.Statement.TheVariants.{Flatten, Open, Recover, Ropen, Stat, Trunc}
 use Rattle.run_core.specs.Play.{IsRight}
-use Rattle.play_laws.specs.OneFile.{OneFile}
-use Rattle.play_laws.specs.OneWriter.{OneWriter}
+use Rattle.headline_laws.specs.OneFile.{OneFile}
+use Rattle.headline_laws.specs.OneWriter.{OneWriter}
 use Rattle.reader_laws.specs.Naming.{IsRoomNamed}
-use Rattle.play_laws.specs.Opening.{Stretch}
-use Rattle.play_laws.specs.Showing.{Shows}
-use Rattle.play_laws.specs.Writing.{ShowsWriting}
-use Rattle.play_laws.proofs.Facts.{IsQuiet, MayAsk}
+use Rattle.headline_laws.specs.Opening.{Stretch}
+use Rattle.headline_laws.specs.Showing.{Shows}
+use Rattle.headline_laws.specs.Writing.{ShowsWriting}
+use Rattle.headline_laws.proofs.Plays.Facts.{IsQuiet, MayAsk}
 use Rattle.headline.specs.Run.{IsLine, Run, Told}
 use Rattle.headline.specs.Names.{names_in}
 use Rattle.headline.specs.Readers.{HasNames, RenamesNone, SpeaksOf}

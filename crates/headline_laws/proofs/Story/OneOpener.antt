@@ -7,7 +7,7 @@ use Rattle.std.proofs.lemmas.Option.{same_Some}
 use Rattle.turn_object.specs.declared.history.Ended.{Ended}
 use Rattle.turn_object.specs.Callers.{made_by}
 use Rattle.turn_object.specs.Ended.{AreApart, as_ended}
-use Rattle.story.specs.MakesCalls.{Role, callers, with_numbers}
+use Rattle.mount_model.specs.MakesCalls.{Role, callers, with_numbers}
 use Rattle.store_api.specs.Acts.{Stored}
 use Rattle.mount_model.specs.declared.call.Ask.{Ask}
 use Rattle.mount_model.specs.declared.reply.Reply.{Reply}
@@ -16,13 +16,13 @@ use Rattle.mount_model.specs.Mounting.{IsMounted}
 use Rattle.mount_model.specs.State.{State}
 use Rattle.mount_sound.specs.Sound.{IsSoundTree}
 use Rattle.plain_file.proofs.Facts.{Among}
-use Rattle.gathering.proofs.Facts.{among}
+use Rattle.reader_laws.proofs.Gathered.Facts.{among}
 use Rattle.script_lang.specs.Ranges.{FitsScript}
 use Rattle.script_lang.specs.declared.line.Outcome.TheVariants as line
 use Rattle.run_core.specs.Cast.{statements_in}
 use Rattle.run_core.specs.Play.{IsRight}
 use Rattle.run_core.specs.Written.{whose}
-use Rattle.play_laws.proofs.Facts.{its_role}
+use Rattle.headline_laws.proofs.Plays.Facts.{its_role}
 use Rattle.headline.specs.Run.{IsLine, Run, Says, Told, own, told}
 use Rattle.headline_laws.proofs.Contents.FirstOpen.{FirstOpen, OpensNot, first_open}
 use Rattle.headline_laws.proofs.Contents.OpenedWriter.{First, Opening, Whole, all_split, entered_so, sound_first, started}

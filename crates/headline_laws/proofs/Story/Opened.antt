@@ -1,13 +1,13 @@
 -- A line of an opened writer: its actor ran the opening to its end.
 use Rattle.std.proofs.Common.{◌≡◌, ◌⊎◌, inl, inr, ℕ, true, false, List, [], ◌∷◌, ◌++◌, Option, Some, None, Result, Ok, Err, refl, sym, ap, ◌∙◌, subst, append_assoc, if◌then◌else◌}
 use Rattle.turn_object.specs.Callers.{made_by}
-use Rattle.story.specs.Calls.{AreCallsOf}
-use Rattle.story.specs.Program.{Program, ask, done}
-use Rattle.story.specs.Process.{asks}
-use Rattle.story.proofs.Facts.{after_own, entries_both}
-use Rattle.flow.specs.Running.{Runs, asking, unbroken}
-use Rattle.flow.specs.declared.stuck.Stuck.{Stuck}
-use Rattle.flow.specs.declared.stuck.Stuck.TheVariants as stuck
+use Rattle.mount_model.specs.Calls.{AreCallsOf}
+use Rattle.mount_model.specs.Program.{Program, ask, done}
+use Rattle.mount_model.specs.Process.{asks}
+use Rattle.mount_model.proofs.Stories.Facts.{after_own, entries_both}
+use Rattle.mount_model.specs.Running.{Runs, asking, unbroken}
+use Rattle.mount_model.specs.declared.stuck.Stuck.{Stuck}
+use Rattle.mount_model.specs.declared.stuck.Stuck.TheVariants as stuck
 use Rattle.mount_model.specs.declared.call.Call.{Call}
 use Rattle.mount_model.specs.declared.call.Call.TheVariants.{Greet}
 use Rattle.mount_model.specs.declared.reply.Reply.{Reply}

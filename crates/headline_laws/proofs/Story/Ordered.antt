@@ -207,7 +207,7 @@ module _ (run : Run) (free : run.in_order ≡ false) (t : Told) where
   owns_all actor [] each = tt
   owns_all actor (t ∷ ts) each = (each t (inl refl), owns_all actor ts (λ s at. each s (inr at)))
 
-  own_ordered : (actor : ℕ) → Ordered (own actor (told run))
+  pub own_ordered : (actor : ℕ) → Ordered (own actor (told run))
   own_ordered actor = filter_ordered (λ (s : Told). nat_eq s.actor actor) (told run) (told_ordered run)
 
   own_all : (actor : ℕ) → AllByRecursion (IsOf actor) (own actor (told run))

@@ -5,14 +5,14 @@ use Rattle.std.specs.Prelude.{Result, ◌==◌}
 use Rattle.std.proofs.lemmas.List.Elements.{filter-append}
 use Rattle.std.proofs.lemmas.List.{append-nil}
 use Rattle.turn_object.specs.Callers.{made_by}
-use Rattle.story.specs.MakesCalls.{one_history}
-use Rattle.story.specs.Performers.{told_at}
-use Rattle.story.specs.Plays.{Plays, PlaysAll}
-use Rattle.story.specs.Process.{asks, ends, pauses, shares, tells}
-use Rattle.story.proofs.Facts.{entries_both}
+use Rattle.mount_model.specs.MakesCalls.{one_history}
+use Rattle.mount_model.specs.Performers.{told_at}
+use Rattle.mount_model.specs.Plays.{Plays, PlaysAll}
+use Rattle.mount_model.specs.Process.{asks, ends, pauses, shares, tells}
+use Rattle.mount_model.proofs.Stories.Facts.{entries_both}
 use Rattle.mount_model.specs.History.{Event}
 use Rattle.mount_model.specs.State.{State}
-use Rattle.flow.specs.declared.stuck.Stuck.{Stuck}
+use Rattle.mount_model.specs.declared.stuck.Stuck.{Stuck}
 use Rattle.index_reader.specs.declared.sharing.Share.{Share}
 use Rattle.script_lang.specs.declared.line.Line.{Line}
 use Rattle.script_lang.specs.declared.script.Numbered.{Numbered}
@@ -25,7 +25,7 @@ use Rattle.actor_core.specs.Statements.{work_of}
 use Rattle.actor_core.specs.Work.{Work}
 use Rattle.run_core.specs.Course.{Course, one_by_one, own as own_statements, then_line, through}
 use Rattle.headline.specs.Run.{Phased, Told, beside, own, phased}
-use Rattle.play_laws.proofs.Facts.{AllOf, ComesTo, all_of_first, all_of_later}
+use Rattle.headline_laws.proofs.Plays.Facts.{AllOf, ComesTo, all_of_first, all_of_later}
 use Rattle.headline_laws.proofs.Statements.Ends.{EndsAs}
 use Rattle.headline_laws.proofs.Statements.Does.{Ended, statement_ends}
 use Rattle.headline_laws.proofs.OrderlyLines.Places.{actors}

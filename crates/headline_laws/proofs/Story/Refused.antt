@@ -3,8 +3,8 @@ use Rattle.std.proofs.Common.{◌≡◌, ◌≢◌, ◌⊎◌, inl, inr, ℕ, Bo
 use Rattle.std.specs.Prelude.{is_some}
 use Rattle.mount_model.specs.History.{Event}
 use Rattle.mount_model.specs.State.{State}
-use Rattle.gathering.specs.Moments.{IsSoundAt, Moment, moment_after}
-use Rattle.gathering.proofs.Facts.{among}
+use Rattle.reader_laws.specs.Moments.{IsSoundAt, Moment, moment_after}
+use Rattle.reader_laws.proofs.Gathered.Facts.{among}
 use Rattle.index_reader.specs.declared.opened.OpenReader.{OpenReader}
 use Rattle.script_lang.specs.Ranges.{FitsScript}
 use Rattle.script_lang.specs.declared.line.Outcome.{Outcome}
@@ -16,12 +16,12 @@ use Rattle.script_lang.specs.declared.script.Statement.TheVariants.{Close, Flatt
 use Rattle.actor_core.specs.declared.kept.Kept.{Kept}
 use Rattle.actor_core.specs.Statements.{work_of}
 use Rattle.run_core.specs.Play.{IsRight}
-use Rattle.play_laws.specs.OneFile.{OneFile}
-use Rattle.play_laws.specs.OneWriter.{OneWriter}
-use Rattle.play_laws.specs.Opening.{Stretch}
-use Rattle.play_laws.specs.Showing.{Shows}
-use Rattle.play_laws.proofs.Facts.{Keeps, Next}
-use Rattle.headline.specs.Run.{Run, Says, Told, before, own, told}
+use Rattle.headline_laws.specs.OneFile.{OneFile}
+use Rattle.headline_laws.specs.OneWriter.{OneWriter}
+use Rattle.headline_laws.specs.Opening.{Stretch}
+use Rattle.headline_laws.specs.Showing.{Shows}
+use Rattle.headline_laws.proofs.Plays.Facts.{Keeps, Next}
+use Rattle.headline.specs.Run.{IsLine, Run, Says, Told, before, own, told}
 use Rattle.headline.specs.Names.{name_of}
 use Rattle.headline.specs.Files.{reader_after, reader_at, reader_next}
 use Rattle.headline.specs.Changes.{Writing, none, writing_after, writing_at, writing_next}
@@ -82,7 +82,7 @@ clashes : (b : Bool) → b ≡ true → b ≡ false → ⊥
 clashes b on off = cc
 
 module _ (m : Moment) (sound : IsSoundAt m) (n : ℕ) (history : List Event) (blocks : List (List Event)) (whole : Next m [] history) where
-  record StandsAt (r : Option Told) (w : Writing) (xs : List Told) (t : Told) : Type 0 where
+  pub record StandsAt (r : Option Told) (w : Writing) (xs : List Told) (t : Told) : Type 0 where
     pub kept : Kept
     pub file : Option OneFile
     pub writer : Option OneWriter
@@ -148,13 +148,14 @@ not_there : {X : Type 0} (o : Option X) → o ≡ None → IsThere o → ⊥
 not_there o empty is = subst IsThere empty is
 
 module _ (run : Run) (m : Moment) (end : State) (fits : FitsScript run.script) (sound : IsSoundAt m) (right : IsRight run.script m.state run.lines end) where
-  abbrev At : {actor : ℕ} → ChainOf run m end fits sound right actor → List Told → Told → Type 0
+  abbrev pub At : {actor : ℕ} → ChainOf run m end fits sound right actor → List Told → Told → Type 0
   At c xs t = StandsAt m sound c.parts.number right.history right.calls.blocks (whole_history run m end fits sound right) None none xs t
 
-  line_stands : (t : Told) (why : Why) (says : Says run t (line.Refused why)) → At (chain_of run m end fits sound right t says.is_line) (own t.actor (before run t)) t
-  line_stands t why says =
-      let c = chain_of run m end fits sound right t says.is_line in
-      let split = own_split run t (among (told run) t says.is_line) in
+  -- a line in its part, with what its actor's lines before it say of what that keeps
+  pub stands_here : (t : Told) (is_line : IsLine run t) → At (chain_of run m end fits sound right t is_line) (own t.actor (before run t)) t
+  stands_here t is_line =
+      let c = chain_of run m end fits sound right t is_line in
+      let split = own_split run t (among (told run) t is_line) in
       stands_at m sound c.parts.number right.history right.calls.blocks (whole_history run m end fits sound right) (own t.actor (before run t)) t split.rest [] c.parts.kept None None None none None
       (subst (λ ts. ShownEach m sound c.parts.number right.history right.calls.blocks (whole_history run m end fits sound right) [] c.parts.kept None None ts) split.is c.each)
       (λ lives. record {
@@ -163,6 +164,9 @@ module _ (run : Run) (m : Moment) (end : State) (fits : FitsScript run.script) (
         reading = (λ is. absurd (not_there c.parts.kept.reader c.parts.no_reader is), λ is. absurd is);
         armed = λ some. absurd (some c.parts.no_stop);
       })
+
+  line_stands : (t : Told) (why : Why) (says : Says run t (line.Refused why)) → At (chain_of run m end fits sound right t says.is_line) (own t.actor (before run t)) t
+  line_stands t why says = stands_here t says.is_line
 
   again_told : (t : Told) → Says run t (line.Refused AlreadyOpen) → (name_of t.statement ≢ None) × MayBeReady false run t t.statement
   again_told t says = by t.statement refl

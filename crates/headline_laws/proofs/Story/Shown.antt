@@ -2,21 +2,21 @@
 use Rattle.std.proofs.Common.{◌≡◌, ℕ, List, [], ◌∷◌, ◌++◌, Option, sym, ap, ◌∙◌, subst, append_assoc}
 use Rattle.std.specs.List.{AllByRecursion}
 use Rattle.turn_object.specs.Callers.{made_by}
-use Rattle.story.specs.Process.{ends}
+use Rattle.mount_model.specs.Process.{ends}
 use Rattle.mount_model.specs.History.{Event}
 use Rattle.mount_model.specs.State.{State}
 use Rattle.mount_sound.specs.Owed.{IsLawful}
-use Rattle.gathering.specs.Moments.{IsSoundAt, Moment, moment_after}
-use Rattle.gathering.proofs.Facts.{follows, legal_first, legal_rest, moment-append}
+use Rattle.reader_laws.specs.Moments.{IsSoundAt, Moment, moment_after}
+use Rattle.reader_laws.proofs.Gathered.Facts.{follows, legal_first, legal_rest, moment-append}
 use Rattle.script_lang.specs.Ranges.{FitsStatement}
 use Rattle.actor_core.specs.declared.kept.Kept.{Kept}
 use Rattle.actor_core.specs.Endings.{Ending}
 use Rattle.actor_core.specs.Statements.{work_of}
-use Rattle.play_laws.specs.OneFile.{OneFile}
-use Rattle.play_laws.specs.OneWriter.{OneWriter}
-use Rattle.play_laws.specs.Showing.{Shows}
-use Rattle.play_laws.specs.Writing.{ShowsWriting}
-use Rattle.play_laws.proofs.Facts.{Keeps, KeepsWriter, Next, Showed, Writes, by_itself, end_alone, keeps_later, lets_none, next_first, next_is, next_rest, nothing_more, statement_ends, writes_later}
+use Rattle.headline_laws.specs.OneFile.{OneFile}
+use Rattle.headline_laws.specs.OneWriter.{OneWriter}
+use Rattle.headline_laws.specs.Showing.{Shows}
+use Rattle.headline_laws.specs.Writing.{ShowsWriting}
+use Rattle.headline_laws.proofs.Plays.Facts.{Keeps, KeepsWriter, Next, Showed, Writes, by_itself, end_alone, keeps_later, lets_none, next_first, next_is, next_rest, nothing_more, statement_ends, writes_later}
 use Rattle.headline.specs.Run.{Told}
 use Rattle.headline_laws.proofs.Story.Parts.{Idles, PartOf, ToldParts}
 

@@ -1,12 +1,10 @@
 -- An entry of an open writer that is gone stays away: nobody enters under a number that was drawn.
-use Rattle.std.proofs.Common.{◌≡◌, ◌≤◌, ◌<◌, ◌+◌, ◌-◌, ◌^◌, ◌⊎◌, inl, inr, ℕ, List, [], ◌∷◌, get_or, Option, Some, None, refl, sym, ap, ◌∙◌, subst, arith}
+use Rattle.std.proofs.Common.{◌≡◌, ◌≤◌, ◌<◌, ◌+◌, ◌-◌, ◌^◌, ◌⊎◌, inl, inr, ℕ, List, [], ◌∷◌, get_or, Option, Some, None, refl, ap, ◌∙◌, arith}
 use Rattle.std.specs.Prelude.{slice_get}
 use Rattle.std.proofs.lemmas.Bool.{cases_eq}
 use Rattle.plfs_types.specs.declared.names.Path.{Path}
-use Rattle.container_layout.specs.declared.items.Item.{Item}
 use Rattle.container_layout.specs.declared.items.Item.TheVariants.{OpenHost}
 use Rattle.container_layout.specs.Items.{IsItem}
-use Rattle.container_layout.specs.Paths.{path_of}
 use Rattle.container_layout.proofs.Facts.{elsewhere, same_items}
 use Rattle.store_api.specs.Step.{Step, create, cut, make_folder, remove, remove_folder, replace, sync, write_at}
 use Rattle.store_api.specs.declared.tree.Room.{Room}
@@ -27,18 +25,17 @@ use Rattle.mount_model.specs.declared.row.Making.TheVariants as making
 use Rattle.mount_model.specs.Entering.{draw_check, next_id}
 use Rattle.mount_model.specs.History.{Event}
 use Rattle.mount_model.specs.Making.{Told}
-use Rattle.mount_model.specs.Paths.{Name, installed, installed_of, open_path, temporary, temporary_of}
+use Rattle.mount_model.specs.Paths.{Name, installed, open_path, temporary, temporary_of}
 use Rattle.container_layout.specs.Paths.{openhosts}
 use Rattle.mount_model.specs.State.{State, last_id, timed}
 use Rattle.mount_model.specs.Step.{Answers, IsStep}
 use Rattle.mount_model.specs.Stopped.{IsLeftBy}
 use Rattle.mount_model.proofs.Facts.{match_cases, may_enter, step_cases, stop_left}
-use Rattle.mount_shape.proofs.Facts.{id_fits}
+use Rattle.mount_sound.proofs.Shapes.Facts.{id_fits}
 use Rattle.mount_sound.specs.Owed.{IsLawful}
-use Rattle.mount_sound.specs.Sound.{IsSoundFor}
 use Rattle.mount_sound.proofs.Facts.{ActsOn, OfEachAct, answer_acts, is_open}
-use Rattle.gathering.specs.Moments.{Dropping, IsNamed, IsSoundAt, Moment, moment_after, next_moment}
-use Rattle.gathering.proofs.Moments.Stepping.{sound_next}
+use Rattle.reader_laws.specs.Moments.{Dropping, IsNamed, IsSoundAt, Moment, moment_after, next_moment}
+use Rattle.reader_laws.proofs.Gathered.Moments.Stepping.{sound_next}
 use Rattle.headline_laws.proofs.Landed.Leaving.{drawn_next}
 
 -- the room of this number is there, and has no such entry

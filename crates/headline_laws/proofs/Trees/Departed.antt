@@ -1,157 +1,63 @@
 -- A writer that a line closed has left: the tree after has metadata of all that it wrote, and no entry of an open writer.
-use Rattle.std.proofs.Common.{◌≡◌, ◌⊎◌, inl, inr, ℕ, Bool, true, false, nat_eq, List, [], ◌∷◌, ◌++◌, map, Option, Some, None, refl, sym, ap, ◌∙◌, subst, append_assoc, if◌then◌else◌}
-use Rattle.std.specs.Prelude.{⊤, slice_get}
-use Rattle.std.specs.List.{AllByRecursion}
+use Rattle.std.proofs.Common.{◌≡◌, ℕ, List, [], ◌++◌, map, Option, Some, None, refl, sym, ap, ◌∙◌, subst, append_assoc}
+use Rattle.std.specs.Prelude.{slice_get}
 use Rattle.container_layout.specs.declared.items.Item.TheVariants.{Meta, OpenHost}
 use Rattle.container_layout.specs.Paths.{path_of}
 use Rattle.plain_file.specs.File.{stored_bytes}
-use Rattle.plain_file.proofs.Facts.{Among}
 use Rattle.store_api.specs.Acts.{Stored}
 use Rattle.store_api.specs.declared.tree.Tree.{Tree}
-use Rattle.store_api.specs.declared.tree.Room.{Room}
 use Rattle.mount_model.specs.History.{Event}
 use Rattle.mount_model.specs.Mounting.{IsMounted}
 use Rattle.mount_model.specs.State.{State}
-use Rattle.mount_sound.specs.Entries.{greatest_end, last_stamp, logged}
+use Rattle.mount_sound.specs.Entries.{greatest_end, logged}
 use Rattle.mount_sound.specs.Ledger.{Written, entries_in}
 use Rattle.mount_sound.specs.Owed.{IsLawful}
 use Rattle.mount_sound.specs.Sound.{IsSoundTree}
-use Rattle.gathering.specs.Moments.{Dropping, IsSoundAt, Moment, file_in_room, file_in_tree, issued_by, moment_after}
+use Rattle.reader_laws.specs.Moments.{Dropping, IsSoundAt, Moment, file_in_room, file_in_tree, issued_by, moment_after}
 use Rattle.mount_sound.specs.Ledger.{change_of}
-use Rattle.gathering.proofs.Facts.{among, is_among, legal_rest, moment-append}
+use Rattle.reader_laws.proofs.Gathered.Facts.{legal_rest, moment-append}
 use Rattle.script_lang.specs.Ranges.{FitsScript}
-use Rattle.script_lang.specs.declared.line.Outcome.{Outcome}
 use Rattle.script_lang.specs.declared.line.Outcome.TheVariants as line
 use Rattle.script_lang.specs.declared.script.Statement.{Statement}
 use Rattle.script_lang.specs.declared.script.Statement.TheVariants as say
 use Rattle.actor_core.specs.declared.kept.Kept.{Kept}
 use Rattle.actor_core.specs.Endings.{Ending}
 use Rattle.run_core.specs.Play.{IsRight}
-use Rattle.play_laws.proofs.Facts.{Next}
-use Rattle.headline.specs.Run.{IsLine, Run, Says, Told, before, own, told}
+use Rattle.headline_laws.proofs.Plays.Facts.{Next}
+use Rattle.headline.specs.Run.{Run, Says, Told, told}
 use Rattle.headline.specs.Trees.{Has}
-use Rattle.headline.specs.Writers.{Account, Writer, account_of, after_line, host_of, new_writer, nothing, told_of}
+use Rattle.headline.specs.Writers.{Writer, host_of, new_writer}
 use Rattle.headline.specs.Views.{IsWriter, opened, stood}
-use Rattle.headline.specs.Changes.{Writing, id_of, last_stamp_of, none, writer_at, writing_after, writing_next}
+use Rattle.headline.specs.Changes.{last_stamp_of, writer_at}
 use Rattle.headline.specs.Left.{HasLeft, end_of}
 use Rattle.headline_laws.proofs.Contents.Accounts.{issued_told}
 use Rattle.headline_laws.proofs.Contents.Amounts.{ends_same, stamps_same, sums_same}
 use Rattle.headline_laws.proofs.Contents.Counted.{homes}
-use Rattle.headline_laws.proofs.Contents.FirstOpen.{FirstOpen, OpensNot, all_first, all_rest, first_open}
-use Rattle.headline_laws.proofs.Contents.OpenedWriter.{Behind, First, Home, ItsDropping, Last, Opening, Whole, entered_so, go, its, sound_first, started}
-use Rattle.headline_laws.proofs.Landed.Bounded.{idle_keeps, line_departs}
+use Rattle.headline_laws.proofs.Contents.AtLine.{AtLine, at_line, not_old}
+use Rattle.headline_laws.proofs.Contents.OpenedWriter.{First, Home, Last, Whole, sound_first}
+use Rattle.headline_laws.proofs.Landed.Bounded.{line_departs}
 use Rattle.headline_laws.proofs.Landed.Gone.{HasGone, gone_later, meta_of}
-use Rattle.headline_laws.proofs.Landed.Machines.{sync_latest, write_latest}
-use Rattle.headline_laws.proofs.OrderlyLines.Answering.{among_own}
-use Rattle.headline_laws.proofs.OrderlyLines.Places.{own_split}
 use Rattle.headline_laws.proofs.Statements.Did.{IsOfKindOr}
 use Rattle.headline_laws.proofs.Statements.Does.{Ended, did, was_gone}
-use Rattle.headline_laws.proofs.Statements.Known.{IsNotOpened, same_next}
-use Rattle.headline_laws.proofs.Statements.LivingLines.{never_opened}
-use Rattle.headline_laws.proofs.Story.Attributed.{either_part}
-use Rattle.headline_laws.proofs.Story.Lines.{ChainOf, chain_of, line_here, writing_append}
-use Rattle.headline_laws.proofs.Story.Shown.{ShownEach}
+use Rattle.headline_laws.proofs.Story.Lines.{line_here}
 use Rattle.headline_laws.proofs.Trees.Away.{IsAway, IsAwayIn}
-use Rattle.headline_laws.proofs.Trees.Fresh.{number_new}
 use Rattle.headline_laws.proofs.Trees.Reading.{last_item, last_tree}
 use Rattle.headline_laws.proofs.Trees.Still.{file_of}
-use Rattle.headline_laws.proofs.Trees.WriterStands.{was_open}
-use Rattle.outcomes.specs.Data.{bytes_of}
 
--- ---- which writer the lines say
+-- ---- an entry that is away
 
--- only the opening of a writer has the line of one
-abbrev pub OpensByOpen : Statement → Outcome → Type 0
-OpensByOpen s (line.Opened id) = (name : List ℕ) × (s ≡ say.Open name)
-OpensByOpen s o = ⊤
+clash : (x : Option (List ℕ)) (bytes : List ℕ) → x ≡ None → x ≡ Some bytes → ⊥
+clash x bytes is_none some = cc
 
-abbrev Orderly : Told → Type 0
-Orderly t = OpensByOpen t.statement t.outcome
+same_tree : (x y : Tree) (told : Option Tree) → told ≡ Some x → told ≡ Some y → x ≡ y
+same_tree x y told p q = cc
 
-same_id : (x y : ℕ) → Some x ≡ Some y → x ≡ y
-same_id x y is = cc
-
-open_next : (v : Writing) (s : Statement) (name : List ℕ) (id other : ℕ) → s ≡ say.Open name → id_of (writing_next v s (line.Opened other)) ≡ Some id → line.Opened other ≡ line.Opened id
-open_next v s name id other is has = ap (λ k. line.Opened k) (same_id other id (subst (λ z. id_of (writing_next v z (line.Opened other)) ≡ Some id) is has))
-
-line_latest : (id cap : ℕ) (a : Account) (s : Statement) (o : Outcome) → (after_line id cap a s o).latest ≡ a.latest
-line_latest id cap a (say.Write at content) o = write_latest id cap at (bytes_of content) a o
-line_latest id cap a say.Sync o = sync_latest a o
-line_latest id cap a say.Close o = sync_latest a o
-line_latest id cap a s o = refl
-
-either_latest : (b : Bool) (x a : Account) → x.latest ≡ a.latest → (if b then x else a).latest ≡ a.latest
-either_latest true x a same = same
-either_latest false x a same = refl
-
-told_latest : (id cap : ℕ) (a : Account) (s : Statement) (o : Outcome) → IsNotOpened o → (told_of id cap a s o).latest ≡ a.latest
-told_latest id cap a s (line.Opened other) not = absurd not
-told_latest id cap a s o not = either_latest a.latest (after_line id cap a s o) a (line_latest id cap a s o)
-
--- where the actor has it behind a line that opens it not, it had it before, and it is the latest still
-record HadIt (id cap : ℕ) (a : Account) (v : Writing) (s : Statement) (o : Outcome) : Type 0 where
-  pub had : id_of v ≡ Some id
-  pub latest : (told_of id cap a s o).latest ≡ a.latest
-
-had_it : (id cap : ℕ) (a : Account) (v : Writing) (s : Statement) (o : Outcome) → (o ≡ line.Opened id → ⊥) → OpensByOpen s o → id_of (writing_next v s o) ≡ Some id → HadIt id cap a v s o
-had_it id cap a v s (line.Opened other) not (name, is) has = absurd (not (open_next v s name id other is has))
-had_it id cap a v s o not by_open has = record { had = same_next v s o id tt has; latest = told_latest id cap a s o tt }
-
-latest_stays : (id cap : ℕ) (ts : List Told) (a : Account) (v : Writing) → AllByRecursion (OpensNot id) ts → AllByRecursion Orderly ts → id_of (writing_after v ts) ≡ Some id → (id_of v ≡ Some id) × (a.latest ≡ true → (account_of id cap a ts).latest ≡ true)
-latest_stays id cap [] a v not orderly has = (has, λ latest. latest)
-latest_stays id cap (t ∷ ts) a v not orderly has =
-    let r = latest_stays id cap ts (told_of id cap a t.statement t.outcome) (writing_next v t.statement t.outcome) not.1 orderly.1 has in
-    let h = had_it id cap a v t.statement t.outcome not.0 orderly.0 r.0 in
-    (h.had, λ latest. r.1 (h.latest ∙ latest))
-
--- a line of the actor opened it
-record OpenedIn (id : ℕ) (ts : List Told) : Type 0 where
-  pub line_of : Told
-  pub among_them : Among line_of ts
-  pub says : line_of.outcome ≡ line.Opened id
-
-opened_or : (id : ℕ) (v : Writing) (s : Statement) (o : Outcome) → OpensByOpen s o → id_of (writing_next v s o) ≡ Some id → (id_of v ≡ Some id) ⊎ (o ≡ line.Opened id)
-opened_or id v s (line.Opened other) (name, is) has = inr (open_next v s name id other is has)
-opened_or id v s o by_open has = inl (same_next v s o id tt has)
-
-opened_in : (id : ℕ) (ts : List Told) (v : Writing) → AllByRecursion Orderly ts → id_of (writing_after v ts) ≡ Some id → (id_of v ≡ Some id) ⊎ OpenedIn id ts
-opened_in id [] v orderly has = inl has
-opened_in id (t ∷ ts) v orderly has = by (opened_in id ts (writing_next v t.statement t.outcome) orderly.1 has)
-  where
-    here : (id_of v ≡ Some id) ⊎ (t.outcome ≡ line.Opened id) → (id_of v ≡ Some id) ⊎ OpenedIn id (t ∷ ts)
-    here (inl had) = inl had
-    here (inr says) = inr (record { line_of = t; among_them = inl refl; says = says })
-
-    by : (id_of (writing_next v t.statement t.outcome) ≡ Some id) ⊎ OpenedIn id ts → (id_of v ≡ Some id) ⊎ OpenedIn id (t ∷ ts)
-    by (inl had) = here (opened_or id v t.statement t.outcome orderly.0 had)
-    by (inr o) = inr (record { line_of = o.line_of; among_them = inr o.among_them; says = o.says })
-
-opened_from : (id : ℕ) (ts : List Told) → (id_of none ≡ Some id) ⊎ OpenedIn id ts → OpenedIn id ts
-opened_from id ts (inl had) = absurd (let clash : None ≡ Some id = had in cc)
-opened_from id ts (inr o) = o
-
-either_own : (b : Bool) (t s : Told) (owned ts : List Told) → Among t (if b then s ∷ owned else owned) → (Among t owned → Among t ts) → Among t (s ∷ ts)
-either_own true t s owned ts (inl same) more = inl same
-either_own true t s owned ts (inr rest) more = inr (more rest)
-either_own false t s owned ts rest more = inr (more rest)
-
-own_line : (actor : ℕ) (ts : List Told) (t : Told) → Among t (own actor ts) → Among t ts
-own_line actor [] t at = absurd at
-own_line actor (s ∷ ts) t at = either_own (nat_eq s.actor actor) t s (own actor ts) ts at (λ rest. own_line actor ts t rest)
-
-all_of : (P : Told → Type 0) (ts : List Told) → ((t : Told) → Among t ts → P t) → AllByRecursion P ts
-all_of P [] each = tt
-all_of P (t ∷ ts) each = (each t (inl refl), all_of P ts (λ s at. each s (inr at)))
-
-among_first : (t : Told) (xs ys : List Told) → Among t xs → Among t (xs ++ ys)
-among_first t [] ys at = absurd at
-among_first t (x ∷ xs) ys (inl same) = inl same
-among_first t (x ∷ xs) ys (inr at) = inr (among_first t xs ys at)
-
-none_among : (id : ℕ) (ts : List Told) (t : Told) → AllByRecursion (OpensNot id) ts → Among t ts → t.outcome ≡ line.Opened id → ⊥
-none_among id [] t opens at says = absurd at
-none_among id (x ∷ ts) t opens (inl same) says = opens.0 (ap (λ (z : Told). z.outcome) (sym same) ∙ says)
-none_among id (x ∷ ts) t opens (inr at) says = none_among id ts t opens.1 at says
+-- the tree that is told has it not
+pub none_away : (m : Moment) (tree : Tree) (d : Dropping) → IsAway m d → m.state.store.tree ≡ Some tree → Has tree d.room (OpenHost d.host d.writer) → ⊥
+none_away m tree d a told has =
+    let same : a.tree ≡ tree = same_tree a.tree tree m.state.store.tree a.told told in
+    let away : IsAwayIn tree d.room d.host d.writer = subst (λ x. IsAwayIn x d.room d.host d.writer) same a.away in
+    clash (file_in_tree tree d.room (path_of (OpenHost d.host d.writer))) has.0 (ap (λ r. file_in_room r (path_of (OpenHost d.host d.writer))) away.there ∙ away.none) (sym (file_of tree d.room (OpenHost d.host d.writer)) ∙ has.1)
 
 -- ---- a line of a close
 
@@ -180,92 +86,29 @@ module _ (run : Run) (times : Option (List ℕ)) (mount : Stored) (start end : S
   abbrev HomeOf : Told → ℕ
   HomeOf t = Home run times mount start end fits mounted tells sound right left t
 
-  line_orderly : (t : Told) → IsLine run t → Orderly t
-  line_orderly t is_line = by t.outcome refl
-    where
-      by : (o : Outcome) → t.outcome ≡ o → OpensByOpen t.statement o
-      by (line.Opened id) is = (let l = line_here run Begins end fits sound_begins right t is_line in was_open l.line.kept t.statement l.line.part.e id (sym l.line.says ∙ is) l.line.part.ended)
-      by o is = tt
-
-  own_orderly : (actor : ℕ) → AllByRecursion Orderly (own actor (told run))
-  own_orderly actor = all_of Orderly (own actor (told run)) (λ t at. line_orderly t (is_among (told run) t (own_line actor (told run) t at)))
-
-  asked_close : (t : Told) (count : ℕ) → Says run t (line.Closed count) → t.statement ≡ say.Close
+  pub asked_close : (t : Told) (count : ℕ) → Says run t (line.Closed count) → t.statement ≡ say.Close
   asked_close t count says = (let l = line_here run Begins end fits sound_begins right t says.is_line in was_close l.line.kept t.statement l.line.part.e count (sym l.line.says ∙ says.says) l.line.part.ended)
 
   -- the line t closed it
   module _ (t : Told) (count id : ℕ) (says : Says run t (line.Closed count)) (its_id : writer_at run t ≡ Some id) where
-    abbrev Earlier : List Told
-    Earlier = own t.actor (before run t)
+    abbrev its : AtLine run times mount start end fits mounted tells sound right left t id
+    its = at_line run times mount start end fits mounted tells sound right left t id says.is_line its_id
 
-    abbrev c : ChainOf run Begins end fits sound_begins right t.actor
-    c = chain_of run Begins end fits sound_begins right t says.is_line
-
-    abbrev rest : List Told
-    rest = (own_split run t (among (told run) t says.is_line)).rest
-
-    split : own t.actor (told run) ≡ Earlier ++ t ∷ rest
-    split = (own_split run t (among (told run) t says.is_line)).is
-
-    orderly : AllByRecursion Orderly (Earlier ++ t ∷ rest)
-    orderly = subst (AllByRecursion Orderly) split (own_orderly t.actor)
-
-    opener : OpenedIn id Earlier
-    opener = opened_from id Earlier (opened_in id Earlier none (all_first Orderly Earlier (t ∷ rest) orderly) its_id)
-
-    fo : FirstOpen id (own t.actor (told run))
-    fo = first_open id (own t.actor (told run)) opener.line_of (subst (Among opener.line_of) (sym split) (among_first opener.line_of Earlier (t ∷ rest) opener.among_them)) opener.says
-
-    abbrev b : Opening run times mount start end fits mounted tells sound right left t.actor c id fo.o.phase fo.post []
-    b = started run times mount start end fits mounted tells sound right left t.actor c id fo.pre fo.o fo.post fo.is fo.says
-
-    -- it stands behind the one that opened it
-    module _ (u : List Told) (earlier_is : Earlier ≡ fo.pre ++ fo.o ∷ u) (post_is : fo.post ≡ u ++ t ∷ rest) where
-      abbrev acc : Account
-      acc = account_of b.d.writer b.cap (nothing true) u
-
-      not_again : AllByRecursion (OpensNot b.d.writer) u
-      not_again = all_first (OpensNot b.d.writer) u (t ∷ rest) (subst (AllByRecursion (OpensNot b.d.writer)) post_is
-          (never_opened Begins sound_begins c.parts.number right.history right.calls.blocks WholeOf b.d (b.earlier ++ b.mine) b.kept b.file b.writer fo.post b.more (entered_so run times mount start end fits mounted tells sound right left t.actor c id fo.o.phase fo.post [] b)))
-
-      orderly_u : AllByRecursion Orderly u
-      orderly_u = (all_rest Orderly fo.pre (fo.o ∷ u) (subst (AllByRecursion Orderly) earlier_is (all_first Orderly Earlier (t ∷ rest) orderly))).1
-
-      writing_u : id_of (writing_after (writing_next (writing_after none fo.pre) fo.o.statement fo.o.outcome) u) ≡ Some b.d.writer
-      writing_u = ap id_of (sym (writing_append none fo.pre fo.o u)) ∙ ap (λ ts. id_of (writing_after none ts)) (sym earlier_is) ∙ its_id ∙ ap (λ k. Some k) (sym b.its_id)
-
-      latest : acc.latest ≡ true
-      latest = (latest_stays b.d.writer b.cap u (nothing true) (writing_next (writing_after none fo.pre) fo.o.statement fo.o.outcome) not_again orderly_u writing_u).1 refl
-
-      behind : Behind run times mount start end fits mounted tells sound right left t.actor c id fo.o.phase fo.post [] b u (t ∷ rest) → HasGone Ends b.d
-      behind T = by T.more
-        where
-          by : ShownEach Begins sound_begins c.parts.number right.history right.calls.blocks WholeOf T.from T.kept T.file T.writer (t ∷ rest) → HasGone Ends b.d
-          by (p, told_so, idle, s, more) =
-              let ends : List Event = p.earlier ++ p.mine in
-              let whole : right.history ≡ ends ++ p.later = p.split ∙ sym (append_assoc p.earlier p.mine p.later) in
-              let lawful : IsLawful Begins.state (ends ++ p.later) = subst (IsLawful Begins.state) whole right.leads.lawful in
-              let here : HasGone (moment_after Begins ends) b.d = line_departs Begins sound_begins c.parts.number right.history right.calls.blocks WholeOf b.cap b.d T.kept T.file T.writer t p told_so s acc count latest (asked_close t count says) says.says
-              (idle_keeps Begins sound_begins c.parts.number right.history right.calls.blocks WholeOf b.cap b.d T.from p.earlier (p.mine ++ p.later) T.kept acc p.split idle T.keeps) in
-              subst (λ m. HasGone m b.d) (sym (ap (moment_after Begins) whole ∙ moment-append Begins ends p.later)) (gone_later (moment_after Begins ends) p.later b.d here (legal_rest Begins ends p.later lawful))
-
-    departed : HasGone Ends b.d
-    departed = by (either_part Earlier (t ∷ rest) fo.pre fo.o fo.post (sym split ∙ fo.is))
-      where
-        by : ((u : List Told) × (Earlier ≡ fo.pre ++ fo.o ∷ u) × (fo.post ≡ u ++ t ∷ rest)) ⊎ ((u : List Told) × (fo.pre ≡ Earlier ++ u) × (t ∷ rest ≡ u ++ fo.o ∷ fo.post)) → HasGone Ends b.d
-        by (inl (u, earlier_is, post_is)) = behind u earlier_is post_is (go run times mount start end fits mounted tells sound right left t.actor c id fo.o.phase fo.post [] b u (t ∷ rest) post_is)
-        by (inr (u, pre_is, rest_is)) = absurd (none_among id Earlier opener.line_of (all_first (OpensNot id) Earlier u (subst (AllByRecursion (OpensNot id)) pre_is fo.none)) opener.among_them opener.says)
+    departed : HasGone Ends its.d
+    departed =
+        let ends : List Event = its.p.earlier ++ its.p.mine in
+        let whole : right.history ≡ ends ++ its.p.later = its.p.split ∙ sym (append_assoc its.p.earlier its.p.mine its.p.later) in
+        let lawful : IsLawful Begins.state (ends ++ its.p.later) = subst (IsLawful Begins.state) whole right.leads.lawful in
+        let gone_here : HasGone (moment_after Begins ends) its.d = line_departs Begins sound_begins its.c.parts.number right.history right.calls.blocks WholeOf its.cap its.d its.kept its.file its.writer t its.p its.says its.shown its.acc count its.latest (asked_close t count says) says.says its.keeps in
+        subst (λ m. HasGone m its.d) (sym (ap (moment_after Begins) whole ∙ moment-append Begins ends its.p.later)) (gone_later (moment_after Begins ends) its.p.later its.d gone_here (legal_rest Begins ends its.p.later lawful))
 
     -- whichever line tells of its opening
     module _ (o : Told) (opens : Says run o (line.Opened id)) where
       abbrev d : Dropping
       d = record { room = HomeOf o; host = host_of (slice_get run.script.actors o.actor); writer = id }
 
-      it : b.d ≡ d
-      it = (let i = its run times mount start end fits mounted tells sound right left o id opens t.actor c fo.o.phase fo.post [] b in λ k. record { room = i.room k; host = i.host k; writer = b.its_id k })
-
       gone : HasGone Ends d
-      gone = subst (HasGone Ends) it departed
+      gone = subst (HasGone Ends) (its.home_is o opens) departed
 
       abbrev ws : List Written
       ws = issued_by Ends d
@@ -280,29 +123,12 @@ module _ (run : Run) (times : Option (List ℕ)) (mount : Stored) (start end : S
             (subst (λ k. Has run.after d.room (Meta (greatest_end (entries_in ws)) k (last_stamp_of (map change_of ws)) d.host id)) (sym (sums_same ws))
             (subst (λ k. Has run.after d.room (Meta (greatest_end (entries_in ws)) (logged (entries_in ws)) k d.host id)) (sym (stamps_same ws))
             (last_item run Begins end fits sound_begins right left d.room (meta_of (entries_in ws) d) gone.meta))));
-        gone = λ has. none_there gone.away (last_tree run Begins end fits sound_begins right left) has;
+        gone = none_away Ends run.after d gone.away (last_tree run Begins end fits sound_begins right left);
       }
-        where
-          clash : (x : Option (List ℕ)) (bytes : List ℕ) → x ≡ None → x ≡ Some bytes → ⊥
-          clash x bytes is_none some = cc
-
-          same_tree : (x y : Tree) (told_it : Option Tree) → told_it ≡ Some x → told_it ≡ Some y → x ≡ y
-          same_tree x y told_it p q = cc
-
-          none_in : (a : IsAwayIn run.after d.room d.host id) → file_in_tree run.after d.room (path_of (OpenHost d.host id)) ≡ None
-          none_in a = ap (λ r. file_in_room r (path_of (OpenHost d.host id))) a.there ∙ a.none
-
-          none_there : IsAway Ends d → Ends.state.store.tree ≡ Some run.after → Has run.after d.room (OpenHost d.host id) → ⊥
-          none_there a last has =
-              let tree : a.tree ≡ run.after = same_tree a.tree run.after Ends.state.store.tree a.told last in
-              clash (file_in_tree run.after d.room (path_of (OpenHost d.host id))) has.0 (none_in (subst (λ x. IsAwayIn x d.room d.host id) tree a.away)) (sym (file_of run.after d.room (OpenHost d.host id)) ∙ has.1)
 
   -- the law of this file
   pub writers_departed : (t : Told) (count n : ℕ) (w : Writer) → Says run t (line.Closed count) → writer_at run t ≡ Some w.id → IsWriter run (homes run times mount start end fits mounted tells sound right left) n (told run) (told run) w → HasLeft run n w
-  writers_departed t count n w says its_id (stood is_item has is) =
-      let o = opener t count w.id says its_id in
-      let is_line : IsLine run o.line_of = is_among (told run) o.line_of (own_line t.actor (told run) o.line_of (subst (Among o.line_of) (sym (split t count w.id says its_id)) (among_first o.line_of (own t.actor (before run t)) _ o.among_them))) in
-      absurd (number_new run times mount start end fits mounted tells sound right o.line_of w.id n w.host (record { is_line = is_line; says = o.says }) is_item has)
+  writers_departed t count n w says its_id (stood is_item has is) = absurd (not_old run times mount start end fits mounted tells sound right left t w.id says.is_line its_id n w.host is_item has)
   writers_departed t count n w says its_id (opened o is_line opens home is) =
       let those = has_left t count w.id says its_id o (record { is_line = is_line; says = opens }) in
       subst (HasLeft run n) (sym is) (subst (λ k. HasLeft run k (new_writer run o.actor w.id (told run) (told run) (told run))) home those)

@@ -8,7 +8,7 @@ use Rattle.mount_model.specs.History.{Event}
 use Rattle.mount_model.specs.Mounting.{IsMounted}
 use Rattle.mount_model.specs.State.{State}
 use Rattle.mount_sound.specs.Sound.{IsSoundTree}
-use Rattle.gathering.specs.Moments.{HadItem, IsSoundAt, Moment, file_in_room, file_told, moment_after}
+use Rattle.reader_laws.specs.Moments.{HadItem, IsSoundAt, Moment, file_in_room, file_told, moment_after}
 use Rattle.script_lang.specs.Ranges.{FitsScript}
 use Rattle.script_lang.specs.declared.line.Outcome.{Outcome}
 use Rattle.script_lang.specs.declared.line.Outcome.TheVariants as line
@@ -17,10 +17,10 @@ use Rattle.script_lang.specs.declared.script.Statement.TheVariants.{Flatten}
 use Rattle.actor_core.specs.declared.kept.Kept.{Kept}
 use Rattle.actor_core.specs.Endings.{Ending}
 use Rattle.run_core.specs.Play.{IsRight}
-use Rattle.play_laws.specs.Flattening.{FlattensFile}
-use Rattle.play_laws.specs.OneFile.{OneFile}
-use Rattle.play_laws.specs.OneWriter.{OneWriter}
-use Rattle.play_laws.specs.Showing.{Shows}
+use Rattle.headline_laws.specs.Flattening.{FlattensFile}
+use Rattle.headline_laws.specs.OneFile.{OneFile}
+use Rattle.headline_laws.specs.OneWriter.{OneWriter}
+use Rattle.headline_laws.specs.Showing.{Shows}
 use Rattle.headline.specs.Run.{Run, Says, Told}
 use Rattle.headline.specs.Trees.{Has}
 use Rattle.headline.specs.Files.{reader_at}

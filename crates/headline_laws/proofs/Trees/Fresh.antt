@@ -10,8 +10,8 @@ use Rattle.mount_model.specs.Mounting.{IsMounted}
 use Rattle.mount_model.specs.State.{State, last_id}
 use Rattle.mount_sound.specs.Sound.{IsSoundTree}
 use Rattle.mount_sound.proofs.Facts.{drawn_there}
-use Rattle.gathering.specs.Moments.{HadItem}
-use Rattle.gathering.proofs.Facts.{in_a_room, in_tree}
+use Rattle.reader_laws.specs.Moments.{HadItem}
+use Rattle.reader_laws.proofs.Gathered.Facts.{in_a_room, in_tree}
 use Rattle.script_lang.specs.Ranges.{FitsScript}
 use Rattle.script_lang.specs.declared.line.Outcome.TheVariants as line
 use Rattle.run_core.specs.Play.{IsRight}

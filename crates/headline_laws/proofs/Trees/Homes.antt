@@ -8,7 +8,7 @@ use Rattle.mount_model.specs.Mounting.{IsMounted}
 use Rattle.mount_model.specs.State.{State}
 use Rattle.mount_sound.specs.Sound.{IsSoundTree}
 use Rattle.mount_sound.proofs.Facts.{mounted_sound}
-use Rattle.gathering.specs.Moments.{HadItem, IsSoundAt, Moment, moment_after}
+use Rattle.reader_laws.specs.Moments.{HadItem, IsSoundAt, Moment, moment_after}
 use Rattle.script_lang.specs.Ranges.{FitsScript}
 use Rattle.script_lang.specs.declared.line.Outcome.TheVariants as line
 use Rattle.run_core.specs.Play.{IsPlay, IsRight}
@@ -20,19 +20,25 @@ use Rattle.headline.specs.Names.{Story}
 use Rattle.headline.specs.Stories.{Fits}
 use Rattle.headline_laws.proofs.Contents.Answered.{contents}
 use Rattle.headline_laws.proofs.Contents.Stats.{stats_told}
+use Rattle.headline_laws.proofs.Reasons.Missing.{missing_told}
+use Rattle.headline_laws.proofs.Reasons.Told.{reasons_told}
 use Rattle.headline_laws.proofs.Story.Entered.{entered_once}
 use Rattle.headline_laws.proofs.Story.Lines.{container}
 use Rattle.headline_laws.proofs.Story.Named.{names_told}
 use Rattle.headline_laws.proofs.Story.OneOpener.{opened_by_one}
 use Rattle.headline_laws.proofs.Story.Refused.{refusals_told}
+use Rattle.headline_laws.proofs.Losses.Surviving.{told_survives}
 use Rattle.headline_laws.proofs.Trees.Departed.{writers_departed}
 use Rattle.headline_laws.proofs.Trees.Flattened.{flattened_stands}
 use Rattle.headline_laws.proofs.Trees.Fresh.{number_new}
 use Rattle.headline_laws.proofs.Trees.Kept.{writers_kept}
+use Rattle.headline_laws.proofs.Makers.Known.{truncs_known}
+use Rattle.headline_laws.proofs.Makers.KnownIndices.{indices_known}
 use Rattle.headline_laws.proofs.Trees.Left.{writers_left}
 use Rattle.headline_laws.proofs.Trees.Listed.{names_are_listed}
 use Rattle.headline_laws.proofs.Trees.Old.{old_seen}
 use Rattle.headline_laws.proofs.Trees.Reading.{last_item, opened_line, readers_told}
+use Rattle.headline_laws.proofs.Trees.Recovered.{recoveries_told}
 use Rattle.headline_laws.proofs.Trees.Truncated.{truncates_told}
 use Rattle.headline_laws.proofs.Trees.WriterStands.{line_stands}
 
@@ -59,7 +65,7 @@ module _ (run : Run) (times : Option (List ℕ)) (opened : Stored) (start end : 
       (there (Index (host_of (slice_get run.script.actors t.actor)) id) s.index, there (Log (host_of (slice_get run.script.actors t.actor)) id) s.log)
 
   pub has_story : run.in_order ≡ false → (story : Story) × Fits run story
-  has_story free = (homes, record { names = names_told run Begin end fits sound_begin right left; opened = record { index = λ t id says. (both_here t id says).0; log = λ t id says. (both_here t id says).1; new = number_new run times opened start end fits mounted told sound right; alone = λ s t id. opened_by_one run times opened start end fits mounted told sound right left id s t }; readers = readers_told run Begin end fits sound_begin right left free; old = old_seen run times opened start end fits mounted told sound right; contents = contents run times opened start end fits mounted told sound right left free; stats = stats_told run times opened start end fits mounted told sound right left free; truncated = truncates_told run times opened start end fits mounted told sound right left free; flattened = flattened_stands run times opened start end fits mounted told sound right left; listed = names_are_listed run times opened start end fits mounted told sound right left free; refusals = refusals_told run Begin end fits sound_begin right; left = writers_left run times opened start end fits mounted told sound right left; closed = writers_departed run times opened start end fits mounted told sound right left; kept = writers_kept run times opened start end fits mounted told sound right left })
+  has_story free = (homes, record { names = names_told run Begin end fits sound_begin right left; opened = record { index = λ t id says. (both_here t id says).0; log = λ t id says. (both_here t id says).1; new = number_new run times opened start end fits mounted told sound right; alone = λ s t id. opened_by_one run times opened start end fits mounted told sound right left id s t }; readers = readers_told run Begin end fits sound_begin right left free; old = old_seen run times opened start end fits mounted told sound right; contents = contents run times opened start end fits mounted told sound right left free; stats = stats_told run times opened start end fits mounted told sound right left free; truncated = truncates_told run times opened start end fits mounted told sound right left free; truncs = truncs_known run times opened start end fits mounted told sound right left free; indices = indices_known run times opened start end fits mounted told sound right left; flattened = flattened_stands run times opened start end fits mounted told sound right left; listed = names_are_listed run times opened start end fits mounted told sound right left free; refusals = refusals_told run Begin end fits sound_begin right; recovered = recoveries_told run times opened start end fits mounted told sound right left free; reasons = reasons_told run Begin end fits sound_begin right; missing = missing_told run times opened start end fits mounted told sound right left free; left = writers_left run times opened start end fits mounted told sound right left; closed = writers_departed run times opened start end fits mounted told sound right left; kept = writers_kept run times opened start end fits mounted told sound right left; losses = told_survives run times opened start end fits mounted told sound right left })
 
 pub play_has_story : (run : Run) (times : Option (List ℕ)) (opened : Stored) (start end : State) → FitsScript run.script → IsMounted 0 times opened start → opened.tree ≡ Some run.before → IsSoundTree run.before → IsPlay run.script start run.lines end → end.store.tree ≡ Some run.after
     → run.in_order ≡ false → (story : Story) × Fits run story

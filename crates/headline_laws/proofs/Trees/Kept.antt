@@ -14,8 +14,8 @@ use Rattle.mount_model.specs.State.{State}
 use Rattle.mount_model.specs.Table.{is_live, row_of}
 use Rattle.mount_sound.specs.Sound.{IsSoundTree}
 use Rattle.mount_sound.proofs.Facts.{all_fit}
-use Rattle.gathering.specs.Moments.{Dropping, HadItem, IsSoundAt, Moment, file_in_room, file_told}
-use Rattle.gathering.proofs.Facts.{among}
+use Rattle.reader_laws.specs.Moments.{Dropping, HadItem, IsSoundAt, Moment, file_in_room, file_told}
+use Rattle.reader_laws.proofs.Gathered.Facts.{among}
 use Rattle.script_lang.specs.Ranges.{FitsScript}
 use Rattle.script_lang.specs.declared.line.Outcome.{Outcome}
 use Rattle.script_lang.specs.declared.line.Outcome.TheVariants as line
@@ -78,7 +78,7 @@ one_row a b o p q = cc
 -- ---- the entry of an open writer
 
 -- a row that is open has it
-entry_stands : (n : ℕ) (m : Moment) → IsSoundAt m → (d : Dropping) (row : Row) → AtPlace m n d row → (o : IsOpenNow n d.writer m.state) → HadItem m d.room (OpenHost d.host d.writer)
+pub entry_stands : (n : ℕ) (m : Moment) → IsSoundAt m → (d : Dropping) (row : Row) → AtPlace m n d row → (o : IsOpenNow n d.writer m.state) → HadItem m d.room (OpenHost d.host d.writer)
 entry_stands n m s d row at o =
     let same : o.row ≡ row = one_row o.row row (row_of d.writer m.state.table.writers) o.has.there at.has.there in
     let placed = s.sound.placed d.writer o.row o.has.there in

@@ -6,9 +6,9 @@ use Rattle.store_api.specs.Acts.{Stored}
 use Rattle.mount_model.specs.Mounting.{IsMounted}
 use Rattle.mount_model.specs.State.{State}
 use Rattle.mount_sound.specs.Sound.{IsSoundTree}
-use Rattle.gathering.specs.Moments.{Dropping, Stood, landed}
+use Rattle.reader_laws.specs.Moments.{Dropping, Stood, landed}
 use Rattle.mount_sound.specs.Ledger.{change_of}
-use Rattle.gathering.proofs.Facts.{among, landed_is_first}
+use Rattle.reader_laws.proofs.Gathered.Facts.{among, landed_is_first}
 use Rattle.script_lang.specs.Ranges.{FitsScript}
 use Rattle.script_lang.specs.declared.line.Outcome.TheVariants as line
 use Rattle.run_core.specs.Play.{IsRight}

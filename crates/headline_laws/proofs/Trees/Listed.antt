@@ -1,5 +1,5 @@
 -- What a line that lists all names says, where no statement renames: none is missing that stood before.
-use Rattle.std.proofs.Common.{◌≡◌, ◌≢◌, ◌⊎◌, inl, inr, ℕ, Bool, true, false, List, [], ◌∷◌, ◌++◌, length, map, Option, Some, None, Result, Ok, Err, refl, sym, ap, ◌∙◌, subst, append_assoc}
+use Rattle.std.proofs.Common.{◌≡◌, ◌⊎◌, inl, inr, ℕ, true, false, List, [], ◌∷◌, ◌++◌, length, Option, Some, Result, Ok, Err, refl, sym, ap, ◌∙◌, subst, append_assoc}
 use Rattle.std.specs.Prelude.{slice_get}
 use Rattle.std.specs.List.{All, AllByRecursion}
 use Rattle.std.proofs.lemmas.List.{append-nil}
@@ -15,10 +15,8 @@ use Rattle.store_api.specs.declared.tree.Tree.{Tree}
 use Rattle.store_laws.specs.Naming.{NamesRoom}
 use Rattle.store_laws.proofs.Facts.{acts_told, keeps_rooms}
 use Rattle.mount_model.specs.declared.call.Ask.{Ask}
-use Rattle.mount_model.specs.declared.call.Call.{Call}
 use Rattle.mount_model.specs.declared.call.Call.TheVariants.{Rooms as AskRooms}
-use Rattle.mount_model.specs.declared.reply.Reply.{Reply}
-use Rattle.mount_model.specs.History.{Event, state_after}
+use Rattle.mount_model.specs.History.{Event}
 use Rattle.mount_model.specs.Making.{Told as WasTold}
 use Rattle.mount_model.specs.Mounting.{IsMounted, list_step, mark_step, marks_step}
 use Rattle.mount_model.specs.Paths.{Name}
@@ -26,13 +24,13 @@ use Rattle.mount_model.specs.State.{State}
 use Rattle.mount_model.specs.Step.{Answers}
 use Rattle.mount_sound.specs.Owed.{IsLawful}
 use Rattle.mount_sound.specs.Sound.{IsSoundTree}
-use Rattle.flow.specs.declared.stuck.Stuck.{Stuck}
-use Rattle.flow.specs.declared.stuck.Stuck.TheVariants as stuck
-use Rattle.flow.specs.Running.{Runs, unbroken}
-use Rattle.flow.proofs.Facts.{runs_next}
-use Rattle.story.specs.Program.{done}
-use Rattle.gathering.specs.Moments.{IsSoundAt, Moment, moment_after}
-use Rattle.gathering.proofs.Facts.{among, follows, is_among, legal_first, legal_rest, moment-append, sound_after}
+use Rattle.mount_model.specs.declared.stuck.Stuck.{Stuck}
+use Rattle.mount_model.specs.declared.stuck.Stuck.TheVariants as stuck
+use Rattle.mount_model.specs.Running.{Runs, unbroken}
+use Rattle.mount_model.proofs.Flows.Facts.{runs_next}
+use Rattle.mount_model.specs.Program.{done}
+use Rattle.reader_laws.specs.Moments.{IsSoundAt, Moment, moment_after}
+use Rattle.reader_laws.proofs.Gathered.Facts.{among, follows, is_among, legal_first, legal_rest, moment-append, sound_after}
 use Rattle.writer_laws.proofs.Stops.{whole_answers}
 use Rattle.script_lang.specs.Ranges.{FitsScript}
 use Rattle.script_lang.specs.declared.line.Outcome.TheVariants as line
@@ -44,7 +42,7 @@ use Rattle.actor_core.specs.Names.{names_program, names_told}
 use Rattle.actor_core.specs.Statements.{disarmed, work_of}
 use Rattle.actor_core.specs.Work.{finishes}
 use Rattle.run_core.specs.Play.{IsRight}
-use Rattle.play_laws.proofs.Facts.{ComesTo}
+use Rattle.headline_laws.proofs.Plays.Facts.{ComesTo}
 use Rattle.headline.specs.Run.{IsLine, Run, Says, Told, surely_before}
 use Rattle.plfs_types.specs.Places.{IsAmong}
 use Rattle.headline.specs.Names.{names_in}
@@ -61,7 +59,7 @@ use Rattle.headline_laws.proofs.Story.Lines.{AnyLine, line_here, room_of, two_he
 use Rattle.headline_laws.proofs.Story.Listing.{AreListed, name_of_room, names_listed, room_of_name}
 use Rattle.headline_laws.proofs.Story.Named.{HasName, NamedAt, name_stays, named_at, no_moves}
 use Rattle.headline_laws.proofs.Story.Opened.{RanTo, carried_came}
-use Rattle.headline_laws.proofs.Trees.Reading.{before_it, in_part, last_tree}
+use Rattle.headline_laws.proofs.Trees.Reading.{before_it, last_tree}
 
 -- ---- the statement
 
@@ -130,7 +128,7 @@ act_names step old new tree told n name acts apart is room there named =
     let k = keeps_rooms step tree told t.0 t.2 n room there in
     (t.0, t.1, (k.0, k.1, k.2.name apart ∙ named))
 
-mounting_names : (times : Option (List ℕ)) (opened : Stored) (start : State) (tree : Tree) (n : ℕ) (name : Name) → IsMounted 0 times opened start → opened.tree ≡ Some tree → (room : Room) → slice_get tree.rooms n ≡ Some room → room.name ≡ name → HasName start n name
+pub mounting_names : (times : Option (List ℕ)) (opened : Stored) (start : State) (tree : Tree) (n : ℕ) (name : Name) → IsMounted 0 times opened start → opened.tree ≡ Some tree → (room : Room) → slice_get tree.rooms n ≡ Some room → room.name ≡ name → HasName start n name
 mounting_names times opened start tree n name mounted is room there named =
     let d = mounted.draws in
     let a = act_names marks_step opened d.roomed tree d.tells.told n name d.tells.made (λ no. no) is room there named in
@@ -156,7 +154,7 @@ module _ (run : Run) (times : Option (List ℕ)) (mount : Stored) (start end : S
   Line r w t = AnyLine run Begins end fits sound_begins right r w t
 
   -- a name of a container stays
-  stays_to : RenamesNone run → (c gap rest : List Event) → right.history ≡ c ++ (gap ++ rest) → (n : ℕ) (name : Name) → HasName (moment_after Begins c).state n name → HasName (moment_after Begins (c ++ gap)).state n name
+  pub stays_to : RenamesNone run → (c gap rest : List Event) → right.history ≡ c ++ (gap ++ rest) → (n : ℕ) (name : Name) → HasName (moment_after Begins c).state n name → HasName (moment_after Begins (c ++ gap)).state n name
   stays_to none c gap rest is n name has =
       let whole : IsLawful Begins.state (c ++ (gap ++ rest)) = subst (IsLawful Begins.state) is right.leads.lawful in
       let later : IsLawful (moment_after Begins c).state (gap ++ rest) = legal_rest Begins c (gap ++ rest) whole in

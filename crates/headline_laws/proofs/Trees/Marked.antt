@@ -1,16 +1,16 @@
 -- A line that tells of a truncate: where in its part of the history the truncate was marked, and what it cuts.
 use Rattle.std.proofs.Common.{◌≡◌, ℕ, List, [], ◌∷◌, ◌++◌, Option, sym, ap, ◌∙◌, subst, append_assoc}
 use Rattle.mount_model.specs.History.{Event}
-use Rattle.gathering.specs.Moments.{HadTrunc, Moment, moment_after}
-use Rattle.gathering.proofs.Facts.{moment-append}
+use Rattle.reader_laws.specs.Moments.{HadTrunc, Moment, moment_after}
+use Rattle.reader_laws.proofs.Gathered.Facts.{moment-append}
 use Rattle.script_lang.specs.declared.line.Outcome.{Outcome}
 use Rattle.script_lang.specs.declared.line.Outcome.TheVariants as line
 use Rattle.script_lang.specs.declared.script.Statement.{Statement}
 use Rattle.script_lang.specs.declared.script.Statement.TheVariants.{Trunc as Truncate}
-use Rattle.play_laws.specs.Changing.{IsTruncated, TruncatesFile}
-use Rattle.play_laws.specs.OneFile.{OneFile}
-use Rattle.play_laws.specs.OneWriter.{OneWriter}
-use Rattle.play_laws.specs.Showing.{Shows}
+use Rattle.headline_laws.specs.Changing.{IsTruncated, TruncatesFile}
+use Rattle.headline_laws.specs.OneFile.{OneFile}
+use Rattle.headline_laws.specs.OneWriter.{OneWriter}
+use Rattle.headline_laws.specs.Showing.{Shows}
 use Rattle.headline_laws.proofs.Story.Lines.{room_of}
 
 -- It was marked by this call. From then on it stands.

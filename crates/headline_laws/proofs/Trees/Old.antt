@@ -21,14 +21,14 @@ use Rattle.mount_model.specs.State.{State}
 use Rattle.mount_sound.specs.Items.{HasItem}
 use Rattle.mount_sound.specs.Sound.{IsSoundTree}
 use Rattle.mount_sound.proofs.Facts.{mounted_sound}
-use Rattle.gathering.specs.Gathering.{Gathered, IsAdmissible}
-use Rattle.gathering.specs.Moments.{Dropping, HadItem, IsSoundAt, Moment, Stood, file_in_room, file_told, landed, moment_after}
-use Rattle.gathering.proofs.Facts.{any_found, follows, found_any, in_a_room, length-entries, sound_after}
+use Rattle.reader_laws.specs.Gathering.{Gathered, IsAdmissible}
+use Rattle.reader_laws.specs.Moments.{Dropping, HadItem, IsSoundAt, Moment, Stood, file_in_room, file_told, landed, moment_after}
+use Rattle.reader_laws.proofs.Gathered.Facts.{any_found, follows, found_any, in_a_room, length-entries, sound_after}
 use Rattle.plain_file.proofs.Facts.{Among}
 use Rattle.script_lang.specs.Ranges.{FitsScript}
 use Rattle.script_lang.specs.declared.line.Outcome.TheVariants as line
 use Rattle.run_core.specs.Play.{IsRight}
-use Rattle.play_laws.specs.OneFile.{OneFile, printed_cut}
+use Rattle.headline_laws.specs.OneFile.{OneFile, printed_cut}
 use Rattle.headline.specs.Run.{Run, Says, Told}
 use Rattle.plfs_types.specs.Places.{IsAmong}
 use Rattle.headline.specs.Trees.{Has, landed_writes}

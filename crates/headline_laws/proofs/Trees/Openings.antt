@@ -1,11 +1,11 @@
 -- Where a writer was opened, its index and its log stand from then on.
 use Rattle.std.proofs.Common.{◌≡◌, ◌≤◌, inl, inr, ℕ, true, List, [], ◌∷◌, ◌++◌, Some, None, Result, Ok, Err, refl, sym, ap, ◌∙◌, subst, arith, append_assoc}
 use Rattle.turn_object.specs.Callers.{made_by}
-use Rattle.story.specs.Calls.{AreCallsOf}
-use Rattle.story.specs.Program.{Program, ask, done}
-use Rattle.flow.specs.Running.{Runs, asking, unbroken}
-use Rattle.flow.specs.declared.stuck.Stuck.{Stuck}
-use Rattle.flow.proofs.Facts.{runs_next}
+use Rattle.mount_model.specs.Calls.{AreCallsOf}
+use Rattle.mount_model.specs.Program.{Program, ask, done}
+use Rattle.mount_model.specs.Running.{Runs, asking, unbroken}
+use Rattle.mount_model.specs.declared.stuck.Stuck.{Stuck}
+use Rattle.mount_model.proofs.Flows.Facts.{runs_next}
 use Rattle.store_api.specs.declared.step.Answer.TheVariants.{Made, NoFolder, NoRoom, Old}
 use Rattle.store_api.specs.declared.store.Trouble.TheVariants as trouble
 use Rattle.container_layout.specs.declared.items.Item.TheVariants.{Index, Log}
@@ -28,7 +28,7 @@ use Rattle.mount_model.specs.Step.{Answers, IsStep}
 use Rattle.mount_model.specs.Table.{at_stage, is_live, only, rank, row_of, writer_of}
 use Rattle.mount_model.proofs.Facts.{is_held, match_cases, row_of-with_row, step_cases}
 use Rattle.mount_sound.proofs.Facts.{all_fit}
-use Rattle.gathering.specs.Moments.{HadItem, IsSoundAt, Moment, file_in_room, file_told}
+use Rattle.reader_laws.specs.Moments.{HadItem, IsSoundAt, Moment, file_in_room, file_told}
 use Rattle.writer_flow.specs.declared.handle.WriterHandle.{WriterHandle}
 use Rattle.writer_flow.specs.Ending.{trouble as trouble_of}
 use Rattle.writer_flow.specs.Handle.{opened_of}

@@ -4,10 +4,10 @@ use Rattle.std.specs.List.{AllByRecursion}
 use Rattle.std.proofs.lemmas.Bool.Decides.{nat_tests}
 use Rattle.plfs_types.specs.declared.entries.Trunc.{Trunc}
 use Rattle.plfs_types.specs.declared.entries.WriterCount.{WriterCount}
-use Rattle.gathering.specs.Gathering.{Gathered}
-use Rattle.gathering.specs.View.{WritersRise}
-use Rattle.gathering.specs.Listing.{StampsRise}
-use Rattle.play_laws.specs.OneFile.{printed_cut}
+use Rattle.reader_laws.specs.Gathering.{Gathered}
+use Rattle.reader_laws.specs.View.{WritersRise}
+use Rattle.reader_laws.specs.GatheringListing.{StampsRise}
+use Rattle.headline_laws.specs.OneFile.{printed_cut}
 use Rattle.headline.specs.Views.{IdsRise}
 
 abbrev pub IsCounted : (WriterCount → Type 0) → Gathered → Type 0

@@ -12,23 +12,23 @@ use Rattle.mount_model.specs.History.{Event}
 use Rattle.mount_model.specs.State.{State}
 use Rattle.mount_sound.specs.Growing.{Stays}
 use Rattle.mount_sound.specs.Owed.{IsLawful}
-use Rattle.gathering.specs.Bounds.{IsSyncedIn}
-use Rattle.gathering.specs.Gathering.{Gathered, IsAdmissible}
-use Rattle.gathering.specs.Moments.{Dropping, Grows, HadItem, HadTrunc, IsSoundAt, Moment, Stood, file_told, moment_after}
-use Rattle.gathering.specs.View.{WritersRise}
-use Rattle.gathering.proofs.Facts.{All-weaker, any_found, follows, found_any, grows_after, legal_first, legal_rest, moment-append, sound_after}
+use Rattle.reader_laws.specs.Bounds.{IsSyncedIn}
+use Rattle.reader_laws.specs.Gathering.{Gathered, IsAdmissible}
+use Rattle.reader_laws.specs.Moments.{Dropping, Grows, HadItem, HadTrunc, IsSoundAt, Moment, Stood, file_told, moment_after}
+use Rattle.reader_laws.specs.View.{WritersRise}
+use Rattle.reader_laws.proofs.Gathered.Facts.{All-weaker, any_found, follows, found_any, grows_after, legal_first, legal_rest, moment-append, sound_after}
 use Rattle.script_lang.specs.Ranges.{FitsScript}
 use Rattle.script_lang.specs.declared.line.Outcome.{Outcome}
 use Rattle.script_lang.specs.declared.line.Outcome.TheVariants as line
 use Rattle.script_lang.specs.declared.script.Statement.{Statement}
 use Rattle.script_lang.specs.declared.script.Statement.TheVariants.{Close, Flatten, Ls, Map, Open, Read, Recover, Refresh, Rename, Rclose, Ropen, Stat, Stop as Arms, Sync, Trunc as Truncate, Verify, Write}
 use Rattle.run_core.specs.Play.{IsRight}
-use Rattle.play_laws.specs.OneFile.{OneFile, printed_cut}
-use Rattle.play_laws.specs.OneWriter.{OneWriter}
-use Rattle.play_laws.specs.Opening.{SeesOneFile, Stretch}
-use Rattle.play_laws.specs.Showing.{Shows, TellsOneFile}
-use Rattle.play_laws.specs.Writing.{ShowsWriting}
-use Rattle.play_laws.proofs.Facts.{any_back, any_front}
+use Rattle.headline_laws.specs.OneFile.{OneFile, printed_cut}
+use Rattle.headline_laws.specs.OneWriter.{OneWriter}
+use Rattle.headline_laws.specs.Opening.{SeesOneFile, Stretch}
+use Rattle.headline_laws.specs.Showing.{Shows, TellsOneFile}
+use Rattle.headline_laws.specs.Writing.{ShowsWriting}
+use Rattle.headline_laws.proofs.Plays.Facts.{any_back, any_front}
 use Rattle.headline.specs.Run.{IsLine, Run, Says, Told, surely_before}
 use Rattle.plfs_types.specs.Places.{IsAmong}
 use Rattle.headline.specs.Trees.{Has}

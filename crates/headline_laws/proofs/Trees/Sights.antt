@@ -8,8 +8,8 @@ use Rattle.plfs_types.specs.declared.entries.WriterCount.{WriterCount}
 use Rattle.container_layout.specs.declared.items.Item.TheVariants.{Trunc as TruncItem}
 use Rattle.mount_model.specs.History.{Event}
 use Rattle.mount_model.specs.State.{State}
-use Rattle.gathering.specs.Moments.{HadTrunc, IsSoundAt, Moment, moment_after}
-use Rattle.gathering.proofs.Facts.{All-weaker}
+use Rattle.reader_laws.specs.Moments.{HadTrunc, IsSoundAt, Moment, moment_after}
+use Rattle.reader_laws.proofs.Gathered.Facts.{All-weaker}
 use Rattle.script_lang.specs.Ranges.{FitsScript}
 use Rattle.script_lang.specs.declared.line.Outcome.{Outcome}
 use Rattle.script_lang.specs.declared.line.Outcome.TheVariants as line
@@ -18,11 +18,11 @@ use Rattle.script_lang.specs.declared.script.Statement.TheVariants.{Stat, Trunc 
 use Rattle.actor_core.specs.declared.kept.Kept.{Kept}
 use Rattle.actor_core.specs.Endings.{Ending}
 use Rattle.run_core.specs.Play.{IsRight}
-use Rattle.play_laws.specs.OneFile.{OneFile, printed_cut}
-use Rattle.play_laws.specs.OneWriter.{OneWriter}
-use Rattle.play_laws.specs.Opening.{SeesOneFile}
-use Rattle.play_laws.specs.Showing.{Shows}
-use Rattle.play_laws.specs.Telling.{TellsOfFile}
+use Rattle.headline_laws.specs.OneFile.{OneFile, printed_cut}
+use Rattle.headline_laws.specs.OneWriter.{OneWriter}
+use Rattle.headline_laws.specs.Opening.{SeesOneFile}
+use Rattle.headline_laws.specs.Showing.{Shows}
+use Rattle.headline_laws.specs.Telling.{TellsOfFile}
 use Rattle.headline.specs.Run.{IsLine, Run, Says, Told, surely_before}
 use Rattle.plfs_types.specs.Places.{IsAmong}
 use Rattle.headline.specs.Trees.{Has}

@@ -32,8 +32,8 @@ use Rattle.mount_model.specs.State.{State, last_id}
 use Rattle.mount_model.specs.Step.{IsStep}
 use Rattle.mount_model.specs.Table.{is_live, row_of}
 use Rattle.mount_model.proofs.Facts.{row_of_id, step_stays_dead}
-use Rattle.mount_shape.specs.Marks.{IsOfMark}
-use Rattle.mount_shape.specs.Shape.{IsShapedTree}
+use Rattle.mount_sound.specs.Marks.{IsOfMark}
+use Rattle.mount_sound.specs.Shape.{IsShapedTree}
 use Rattle.mount_sound.specs.Dropping.{IsWriter, bytes_of, log_bytes}
 use Rattle.mount_sound.specs.Growing.{Stays}
 use Rattle.mount_sound.specs.Issued.{issued_after}
@@ -43,9 +43,9 @@ use Rattle.mount_sound.specs.Owed.{IsLawful, IsNotLive}
 use Rattle.mount_sound.specs.Sound.{IsSoundTree}
 use Rattle.mount_sound.specs.There.{landed_entries}
 use Rattle.mount_sound.proofs.Facts.{drawn_there, drop_past, live_stage, mounted_keeps, mounted_sound, take_all, writer_told}
-use Rattle.gathering.specs.Moments.{Dropping, Grows, HadItem, IsSoundAt, Moment, Stood, file_in_room, file_in_tree, file_then, file_told, index_then, issued_by, landed, landed_by, log_then, moment_after, next_moment}
-use Rattle.gathering.proofs.Moments.Issuing.{step_issues_or_not}
-use Rattle.gathering.proofs.Facts.{follows, grows_after, in_a_room, in_tree, its_log, landed_at, landed_is_first, length-entries, sound_after, stands}
+use Rattle.reader_laws.specs.Moments.{Dropping, Grows, HadItem, IsSoundAt, Moment, Stood, file_in_room, file_in_tree, file_then, file_told, index_then, issued_by, landed, landed_by, log_then, moment_after, next_moment}
+use Rattle.reader_laws.proofs.Gathered.Moments.Issuing.{step_issues_or_not}
+use Rattle.reader_laws.proofs.Gathered.Facts.{follows, grows_after, in_a_room, in_tree, its_log, landed_at, landed_is_first, length-entries, sound_after, stands}
 use Rattle.run_core.specs.Leading.{Leads}
 use Rattle.headline.specs.Run.{Run}
 use Rattle.headline.specs.Trees.{Has, bytes_in, landed_in, landed_writes, log_in, logged_write, or_none}
@@ -216,7 +216,7 @@ abbrev pub written : Written → Change
 written w = Change_of w.entry w.bytes
 
 -- a log that has the bytes of the writes tells them
-all_logged : (id last : ℕ) (front : List ℕ) (ws : List Written) (rest : List ℕ) → AreEntriesOf id last (length front) (entries_in ws) → AreFull ws → map (logged_write (front ++ (content ws ++ rest))) (entries_in ws) ≡ map written ws
+pub all_logged : (id last : ℕ) (front : List ℕ) (ws : List Written) (rest : List ℕ) → AreEntriesOf id last (length front) (entries_in ws) → AreFull ws → map (logged_write (front ++ (content ws ++ rest))) (entries_in ws) ≡ map written ws
 all_logged id last front [] rest order full = refl
 all_logged id last front (w ∷ ws) rest order full =
     let log : List ℕ = front ++ ((w.bytes ++ content ws) ++ rest) in
@@ -236,7 +236,7 @@ pub content_same : (ws : List Written) → content_of (map written ws) ≡ conte
 content_same [] = refl
 content_same (w ∷ ws) = ap (λ z. w.bytes ++ z) (content_same ws)
 
-none_or : (o : Option (List ℕ)) → or_none o ≡ bytes_of o
+pub none_or : (o : Option (List ℕ)) → or_none o ≡ bytes_of o
 none_or None = refl
 none_or (Some bytes) = refl
 

@@ -29,17 +29,17 @@ use Rattle.mount_sound.specs.Owed.{InRoom, IsLawful}
 use Rattle.mount_sound.specs.Sound.{IsSoundTree}
 use Rattle.mount_sound.specs.There.{entries_there}
 use Rattle.mount_sound.proofs.Facts.{take_all}
-use Rattle.gathering.specs.Moments.{Dropping, IsNamed, IsSoundAt, Moment, Stood, index_then, issued_by, landed, landed_by, log_then, moment_after}
+use Rattle.reader_laws.specs.Moments.{Dropping, IsNamed, IsSoundAt, Moment, Stood, index_then, issued_by, landed, landed_by, log_then, moment_after}
 use Rattle.mount_sound.specs.Ledger.{change_of}
-use Rattle.flow.specs.Running.{unbroken}
-use Rattle.gathering.proofs.Facts.{any_found, in_a_room, in_tree, landed_at, landed_is_first, landed_whole, legal_first, legal_rest, moment-append, sound_after}
+use Rattle.mount_model.specs.Running.{unbroken}
+use Rattle.reader_laws.proofs.Gathered.Facts.{any_found, in_a_room, in_tree, landed_at, landed_is_first, landed_whole, legal_first, legal_rest, moment-append, sound_after}
 use Rattle.script_lang.specs.Ranges.{FitsScript}
 use Rattle.script_lang.specs.declared.line.Outcome.TheVariants as line
 use Rattle.script_lang.specs.declared.script.Statement.TheVariants.{Trunc as Truncates}
 use Rattle.outcomes.specs.Data.{bytes_of as bytes_of_data}
 use Rattle.run_core.specs.Play.{IsRight}
-use Rattle.play_laws.specs.Changing.{IssuesAbove}
-use Rattle.play_laws.specs.OneWriter.{OneWriter, WritesOnce}
+use Rattle.headline_laws.specs.Changing.{IssuesAbove}
+use Rattle.headline_laws.specs.OneWriter.{OneWriter, WritesOnce}
 use Rattle.headline.specs.Run.{IsLine, Run, Says, Told, before, so_far, surely_before, told}
 use Rattle.headline.specs.Trees.{Has, landed_writes}
 use Rattle.headline.specs.Files.{reader_at}

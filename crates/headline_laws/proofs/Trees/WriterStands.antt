@@ -9,9 +9,9 @@ use Rattle.mount_model.specs.History.{Event, state_after}
 use Rattle.mount_model.specs.State.{State}
 use Rattle.mount_sound.specs.Owed.{IsLawful}
 use Rattle.mount_sound.proofs.Facts.{lawful_rest}
-use Rattle.gathering.specs.Moments.{Dropping, Grows, HadItem, IsSoundAt, Moment, moment_after}
-use Rattle.gathering.proofs.Facts.{among, grows_after, legal_first, legal_rest, moment-append, sound_after}
-use Rattle.flow.specs.Running.{Runs}
+use Rattle.reader_laws.specs.Moments.{Dropping, Grows, HadItem, IsSoundAt, Moment, moment_after}
+use Rattle.reader_laws.proofs.Gathered.Facts.{among, grows_after, legal_first, legal_rest, moment-append, sound_after}
+use Rattle.mount_model.specs.Running.{Runs}
 use Rattle.script_lang.specs.Ranges.{FitsScript}
 use Rattle.script_lang.specs.declared.line.Outcome.TheVariants as line
 use Rattle.script_lang.specs.declared.script.Statement.{Statement}

@@ -7,8 +7,8 @@ use Rattle.std.proofs.lemmas.Nat.{div-mul-add}
 use Rattle.plfs_types.specs.declared.names.Path.{Path}
 use Rattle.plfs_types.specs.declared.entries.Cover.{Cover}
 use Rattle.flat_format.specs.declared.flat.Flat.{Flat}
-use Rattle.story.specs.Program.{done, followed_by}
-use Rattle.flow.specs.Standing.{ready, rest_of, replied}
+use Rattle.mount_model.specs.Program.{done, followed_by}
+use Rattle.mount_model.specs.Standing.{ready, rest_of, replied}
 use Rattle.mount_model.specs.Paths.{flat_path}
 use Rattle.mount_model.specs.declared.reply.Reply.{Reply}
 use Rattle.index_reader.specs.declared.entries.Tail.{Tail}
@@ -25,8 +25,8 @@ use Rattle.index_reader.specs.PackRules.{pack_told}
 use Rattle.index_reader.specs.Packs.{pack_tail, pack_rest, if_headed, head_fault, head_then}
 use Rattle.index_reader.specs.declared.packed.Headed.{Headed}
 use Rattle.index_reader.specs.Packed.{headed_program}
-use Rattle.flow.specs.declared.stuck.Stuck.{Stuck}
-use Rattle.flow.specs.Replies.{Tries, given, bytes_in, on_ok, trouble}
+use Rattle.mount_model.specs.declared.stuck.Stuck.{Stuck}
+use Rattle.mount_model.specs.FlowReplies.{Tries, given, bytes_in, on_ok, trouble}
 use Rattle.plfs_types.specs.declared.entries.Entry.{Entry}
 use Rattle.index_reader.specs.Stages.{pack_step}
 use Rattle.index_reader.specs.FileReads.{parts_of, next_part, parts, bytes_left, bytes_on, first_rest}

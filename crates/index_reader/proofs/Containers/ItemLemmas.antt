@@ -8,7 +8,7 @@ use Rattle.container_layout.specs.declared.items.Item.TheVariants as item
 use Rattle.container_layout.specs.Items.{IsItem}
 use Rattle.container_layout.specs.Paths.{path_of, IsAt}
 use Rattle.container_layout.proofs.Facts.{one_item}
-use Rattle.flow.specs.Names.{or_else}
+use Rattle.mount_model.specs.Names.{or_else}
 use Rattle.index_reader.specs.Searching.{same_bytes}
 use Rattle.index_reader.specs.Items.{same_path, item_at, item_of_id, item_of_host, flat_item, hostdir_item, is_flats, is_of_hostdir}
 use Rattle.index_reader.proofs.Containers.Searching.{same_bytes-itself, same_bytes-eq, found_below, none_below}

@@ -5,9 +5,9 @@ use Rattle.plfs_types.specs.declared.entries.Cover.{Cover}
 use Rattle.plfs_types.specs.declared.names.Path.{Path}
 use Rattle.container_layout.specs.Paths.{hostdir_of}
 use Rattle.flat_format.specs.declared.flat.Flat.{Flat}
-use Rattle.flow.specs.declared.stuck.Stuck.{Stuck}
-use Rattle.flow.specs.Replies.{Tries, given, on_ok, room_in, names_in, bytes_in, trouble}
-use Rattle.story.specs.Program.{AsksOnly, Program, done, ask, followed_by}
+use Rattle.mount_model.specs.declared.stuck.Stuck.{Stuck}
+use Rattle.mount_model.specs.FlowReplies.{Tries, given, on_ok, room_in, names_in, bytes_in, trouble}
+use Rattle.mount_model.specs.Program.{AsksOnly, Program, done, ask, followed_by}
 use Rattle.mount_model.specs.Paths.{flat_path, index_path, log_path}
 use Rattle.mount_model.specs.declared.call.Call.{Call}
 use Rattle.mount_model.specs.declared.call.Call.TheVariants.{Find, Look}
@@ -27,7 +27,7 @@ use Rattle.index_reader.specs.Packs.{head_fault, head_then, if_headed, no_tail, 
 use Rattle.index_reader.specs.Scanning.{nothing_found, scanned}
 use Rattle.index_reader.specs.Sharing.{added, dropping_program, gathers, nothing, share_program}
 use Rattle.index_reader.specs.Tails.{if_logged, if_told, log_then, looked, reads, tail_program}
-use Rattle.flow.specs.Entries.{next_read, reads_of}
+use Rattle.mount_model.specs.Entries.{next_read, reads_of}
 use Rattle.index_reader.specs.Tops.{top_shows}
 use Rattle.index_reader.specs.Truncs.{trunc_program}
 use Rattle.index_reader.proofs.Indices.TailLemmas.{if_checked_asks}

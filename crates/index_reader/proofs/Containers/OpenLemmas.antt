@@ -2,11 +2,11 @@
 use Rattle.std.proofs.Common.{◌≡◌, ◌∙◌, ℕ, List, [], None, Option, Some, Ok, ap, refl, sym, subst}
 use Rattle.std.specs.Prelude.{Result}
 use Rattle.flat_format.specs.declared.flat.Flat.{Flat}
-use Rattle.flow.specs.declared.stuck.Stuck.{Stuck}
-use Rattle.story.specs.Program.{followed_by}
-use Rattle.flow.specs.Standing.{ready, rest_of, replied}
-use Rattle.flow.specs.Replies.{Tries, given, names_in, on_ok, trouble}
-use Rattle.flow.specs.Listed.{file_in}
+use Rattle.mount_model.specs.declared.stuck.Stuck.{Stuck}
+use Rattle.mount_model.specs.Program.{followed_by}
+use Rattle.mount_model.specs.Standing.{ready, rest_of, replied}
+use Rattle.mount_model.specs.FlowReplies.{Tries, given, names_in, on_ok, trouble}
+use Rattle.mount_model.specs.FlowListed.{file_in}
 use Rattle.mount_model.specs.Paths.{Name}
 use Rattle.mount_model.specs.declared.reply.Reply.{Reply}
 use Rattle.index_reader.specs.declared.flats.AfterFlat.{AfterFlat}

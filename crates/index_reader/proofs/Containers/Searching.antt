@@ -3,7 +3,7 @@ use Rattle.std.proofs.Common.{◌≡◌, ℕ, zero, suc, ◌<◌, inl, inr, ◌=
 use Rattle.std.proofs.lemmas.Bool.{cases_lt, and_from, and_parts}
 use Rattle.std.proofs.lemmas.Bool.Decides.{nat_tests}
 use Rattle.plain_file.proofs.Facts.{cases_Option}
-use Rattle.flow.specs.Names.{find_below}
+use Rattle.mount_model.specs.Names.{find_below}
 use Rattle.index_reader.specs.Searching.{same_bytes}
 
 pub same_bytes-itself : (xs : List ℕ) → same_bytes xs xs ≡ true

@@ -4,10 +4,10 @@ use Rattle.std.specs.List.{AllByRecursion}
 use Rattle.std.proofs.lemmas.Bool.{cases_eq, cases_lt, cond-true, cond-false}
 use Rattle.std.proofs.lemmas.Bool.Decides.{nat_tests}
 use Rattle.plfs_types.specs.declared.entries.Trunc.{Trunc}
-use Rattle.flow.specs.Order.{ordered_by, put_by, truncs_by_stamp}
-use Rattle.flow.specs.declared.stuck.Stuck.{Stuck}
+use Rattle.mount_model.specs.Order.{ordered_by, put_by, truncs_by_stamp}
+use Rattle.mount_model.specs.declared.stuck.Stuck.{Stuck}
 use Rattle.mount_model.specs.Paths.{Name}
-use Rattle.flow.specs.Names.{trunc_in}
+use Rattle.mount_model.specs.Names.{trunc_in}
 use Rattle.index_reader.specs.Truncs.{if_trunc, inserted, is_before, place_of, truncs_listed, truncs_of}
 
 -- ---- one in its place

@@ -4,7 +4,7 @@ use Rattle.std.specs.Bool.{Decides}
 use Rattle.std.proofs.lemmas.Bool.{cases_lt, leb-true, le-leb, cond-true, cond-false}
 use Rattle.std.proofs.lemmas.List.{take-take, take_all}
 use Rattle.flat_format.specs.Bad.{BreaksAt}
-use Rattle.flow.specs.Names.{or_else, find_below}
+use Rattle.mount_model.specs.Names.{or_else, find_below}
 use Rattle.index_reader.specs.Searching.{same_bytes}
 use Rattle.index_reader.specs.Breaks.{first_break}
 use Rattle.index_reader.proofs.Containers.Searching.{same_bytes-itself, same_bytes-eq, none_below}

@@ -4,7 +4,7 @@ use Rattle.std.specs.Prelude.{if◌then◌else◌}
 use Rattle.std.proofs.lemmas.Bool.{cond-true, cond-false, lt-leb, le-leb}
 use Rattle.plfs_types.specs.declared.entries.Entry.{Entry}
 use Rattle.interval_merge.specs.Writer.{HasPiece}
-use Rattle.flow.specs.Entries.{is_next}
+use Rattle.mount_model.specs.Entries.{is_next}
 use Rattle.index_reader.specs.declared.entries.Tail.{Tail}
 use Rattle.index_reader.specs.declared.entries.Went.{Went}
 use Rattle.index_reader.specs.declared.entries.Went.TheVariants.{Ends, Breaks}

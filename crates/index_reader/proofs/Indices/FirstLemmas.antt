@@ -9,7 +9,7 @@ use Rattle.std.specs.Ordering.{nat_cmp}
 use Rattle.std.proofs.Common.{Less, Equal, Greater}
 use Rattle.std.proofs.lemmas.List.Elements.{All-cons, All-nil}
 use Rattle.plfs_types.specs.declared.entries.Cover.{Cover}
-use Rattle.flow.specs.Names.{or_else}
+use Rattle.mount_model.specs.Names.{or_else}
 use Rattle.index_reader.specs.Covered.{AreByWriter}
 use Rattle.index_reader.specs.Firsts.{first_in as cover_in, AreAtOwn, HasFirsts}
 use Rattle.index_reader.specs.Gathered.{AreFirstOf}

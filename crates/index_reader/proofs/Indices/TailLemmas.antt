@@ -8,8 +8,8 @@ use Rattle.index_reader.specs.declared.listing.Dropping.{Dropping}
 use Rattle.index_reader.specs.declared.entries.Tail.{Tail}
 use Rattle.index_reader.specs.declared.entries.Went.{Went}
 use Rattle.index_reader.specs.declared.entries.Went.TheVariants.{On, Ends, Breaks}
-use Rattle.story.specs.Program.{AsksOnly, followed_by}
-use Rattle.flow.specs.Standing.{ready, rest_of, replied}
+use Rattle.mount_model.specs.Program.{AsksOnly, followed_by}
+use Rattle.mount_model.specs.Standing.{ready, rest_of, replied}
 use Rattle.mount_model.specs.declared.call.Call.{Call}
 use Rattle.mount_model.specs.declared.reply.Reply.{Reply}
 use Rattle.plfs_types.specs.declared.entries.Cover.{Cover}
@@ -22,10 +22,10 @@ use Rattle.index_reader.specs.declared.steps.Step.{Step}
 use Rattle.index_reader.specs.declared.steps.Step.TheVariants.{Index, Log, Entries}
 use Rattle.index_reader.specs.declared.sharing.Share.{Share}
 use Rattle.index_reader.specs.Stages.{step_program, pack_step, dropping_left}
-use Rattle.flow.specs.declared.stuck.Stuck.{Stuck}
-use Rattle.flow.specs.Replies.{Tries}
+use Rattle.mount_model.specs.declared.stuck.Stuck.{Stuck}
+use Rattle.mount_model.specs.FlowReplies.{Tries}
 use Rattle.index_reader.specs.Tails.{if_checked, reads, reads_left, reads_on}
-use Rattle.flow.specs.Entries.{reads_of, next_read}
+use Rattle.mount_model.specs.Entries.{reads_of, next_read}
 
 one_read_less : (left : ℕ) → 0 < left → reads_of left ≡ suc (reads_of (left - next_read left))
 one_read_less left h = elim (cases_lt 4096 left) [

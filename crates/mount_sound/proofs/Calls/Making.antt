@@ -12,8 +12,8 @@ use Rattle.mount_model.specs.State.{State, Table, last_id}
 use Rattle.mount_model.specs.Making.{Told, CallOutcome, MakesAct, Refuses}
 use Rattle.mount_model.specs.Regular.{IsRegular, IsCounted, IsDrawn}
 use Rattle.mount_model.proofs.Facts.{row_of_all}
-use Rattle.mount_shape.specs.Shape.{IsShaped}
-use Rattle.mount_shape.proofs.Facts.{id_fits}
+use Rattle.mount_sound.specs.Shape.{IsShaped}
+use Rattle.mount_sound.proofs.Shapes.Facts.{id_fits}
 use Rattle.mount_sound.specs.Ledger.{Ledger}
 use Rattle.mount_sound.specs.Sound.{AreSound, IsSoundFor}
 use Rattle.mount_sound.proofs.Soundness.Local.{AllFit}

@@ -31,8 +31,8 @@ use Rattle.mount_model.specs.State.{State, Table, last_id}
 use Rattle.mount_model.specs.Step.{Answers, IsStep, OwedBy}
 use Rattle.mount_model.specs.Table.{is_live, row_of}
 use Rattle.mount_model.proofs.Facts.{match_cases, may_mend, not_live, step_cases, stop_replies}
-use Rattle.mount_shape.proofs.Facts.{container_at, item_held, shape_of}
-use Rattle.mount_shape.specs.Shape.{IsDrawnBy}
+use Rattle.mount_sound.proofs.Shapes.Facts.{container_at, item_held, shape_of}
+use Rattle.mount_sound.specs.Shape.{IsDrawnBy}
 use Rattle.mount_sound.specs.Items.{HasMeta}
 use Rattle.mount_sound.specs.Ledger.{Ledger}
 use Rattle.mount_sound.specs.Owed.{HasDropping, IsNotLive, May, MayMend, Owes, StandsInRoom}

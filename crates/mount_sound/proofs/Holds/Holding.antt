@@ -24,9 +24,9 @@ use Rattle.mount_model.specs.Entering.{draw_check}
 use Rattle.mount_model.specs.Holding.{HoldsContainer, HoldsRoom, HoldOutcome, holding, hold_step, Truncates, TruncatesAt, truncate_check, truncate_stamp, truncate_step, truncate_outcome, Renames, RenamesRoom, rename_step, rename_outcome, Releases, release_step, release_outcome}
 use Rattle.mount_model.specs.Recovering.{MendsHold, mend_hold_check, mend_hold_step, mend_hold_outcome}
 use Rattle.mount_model.proofs.Facts.{IsHolding, MayTruncate, holder_apart, itself, may_truncate, on_holder}
-use Rattle.mount_shape.specs.Shape.{IsShaped, IsDrawnBy}
-use Rattle.mount_shape.specs.Container.{IsContainer}
-use Rattle.mount_shape.proofs.Facts.{container_at, item_held, shape_of}
+use Rattle.mount_sound.specs.Shape.{IsShaped, IsDrawnBy}
+use Rattle.mount_sound.specs.Container.{IsContainer}
+use Rattle.mount_sound.proofs.Shapes.Facts.{container_at, item_held, shape_of}
 use Rattle.mount_sound.specs.Ledger.{Ledger}
 use Rattle.mount_sound.specs.Held.{AreHeld, IsHeldIn}
 use Rattle.mount_sound.specs.Kept.{IsKept}

@@ -22,7 +22,7 @@ use Rattle.mount_model.specs.Paths.{installed_item, installed_of, temporary_item
 use Rattle.mount_model.specs.State.{Table}
 use Rattle.mount_model.specs.Table.{flattening_at}
 use Rattle.mount_model.proofs.Facts.{flattening_at_id}
-use Rattle.mount_shape.specs.Named.{FitsNames}
+use Rattle.mount_sound.specs.Named.{FitsNames}
 use Rattle.mount_sound.specs.Flats.{IsBegunIn, IsRightFor, IsFlatteningIn, AreRightFlats, AreBeingMade}
 use Rattle.mount_sound.specs.Held.{AreHeld}
 use Rattle.mount_sound.specs.Items.{HasItem}

@@ -21,8 +21,8 @@ use Rattle.mount_model.specs.Regular.{IsRegular}
 use Rattle.mount_model.specs.State.{State, Table}
 use Rattle.mount_model.specs.Table.{flat_rank, flattening_at}
 use Rattle.mount_model.proofs.Facts.{IsUnderway, flattening_at_other-push, flattening_at_other-with_flattening, found_before-push, found_before-with_flattening, next_not_flattened}
-use Rattle.mount_shape.specs.Named.{FitsNames}
-use Rattle.mount_shape.specs.Shape.{IsShaped}
+use Rattle.mount_sound.specs.Named.{FitsNames}
+use Rattle.mount_sound.specs.Shape.{IsShaped}
 use Rattle.mount_sound.specs.Flats.{IsBegunIn, IsRightFor, IsFlatteningIn}
 use Rattle.mount_sound.specs.Owed.{MayPut}
 use Rattle.mount_sound.proofs.Calls.Aside.{HasSoundFlats, one_room}

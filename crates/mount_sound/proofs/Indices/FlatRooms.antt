@@ -19,7 +19,7 @@ use Rattle.mount_model.specs.declared.row.Making.TheVariants as making
 use Rattle.mount_model.specs.declared.row.Row.{Row}
 use Rattle.mount_model.specs.Paths.{Name, installed_item, installed_of, temporary_item, temporary_of}
 use Rattle.container_layout.specs.Paths.{openhosts}
-use Rattle.mount_shape.specs.Named.{FitsNames}
+use Rattle.mount_sound.specs.Named.{FitsNames}
 use Rattle.mount_sound.specs.Flats.{IsBegunIn, IsRightFor, IsFlatteningIn}
 use Rattle.mount_sound.specs.Held.{IsHeldIn, AreHeld}
 use Rattle.mount_sound.specs.Items.{HasItem}

@@ -29,9 +29,9 @@ use Rattle.mount_model.specs.Regular.{IsRegular}
 use Rattle.mount_model.specs.State.{State, Table, drawn, last_id}
 use Rattle.mount_model.specs.Table.{flat_rank, flattening_at, flattening_of, its_flattening, without_flattening}
 use Rattle.mount_model.proofs.Facts.{IsUnderway, flattening_at-without_flattening, flattening_at_other-without_flattening, may_enter, on_flattening, unless_refused}
-use Rattle.mount_shape.specs.Named.{FitsNames}
-use Rattle.mount_shape.specs.Shape.{IsDrawnBy, IsShaped}
-use Rattle.mount_shape.proofs.Facts.{id_fits, item_drawn}
+use Rattle.mount_sound.specs.Named.{FitsNames}
+use Rattle.mount_sound.specs.Shape.{IsDrawnBy, IsShaped}
+use Rattle.mount_sound.proofs.Shapes.Facts.{id_fits, item_drawn}
 use Rattle.mount_sound.specs.Flats.{IsBegunIn, IsRightFor, IsFlatteningIn}
 use Rattle.mount_sound.specs.Items.{HasItem}
 use Rattle.mount_sound.specs.Owed.{Owes}

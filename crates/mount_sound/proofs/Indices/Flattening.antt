@@ -24,10 +24,10 @@ use Rattle.mount_model.specs.Regular.{IsOfSerial, IsRegular}
 use Rattle.mount_model.specs.State.{State, Table, drawn, last_id}
 use Rattle.mount_model.specs.Table.{flattening_at}
 use Rattle.mount_model.proofs.Facts.{all-unmap, flattening_apart, flattening_at_all, may_enter, on_flattening, unless_refused}
-use Rattle.mount_shape.specs.Container.{IsContainer}
-use Rattle.mount_shape.specs.Named.{FitsNames}
-use Rattle.mount_shape.specs.Shape.{IsDrawnBy, IsShaped}
-use Rattle.mount_shape.proofs.Facts.{container_at, id_fits, shape_of}
+use Rattle.mount_sound.specs.Container.{IsContainer}
+use Rattle.mount_sound.specs.Named.{FitsNames}
+use Rattle.mount_sound.specs.Shape.{IsDrawnBy, IsShaped}
+use Rattle.mount_sound.proofs.Shapes.Facts.{container_at, id_fits, shape_of}
 use Rattle.mount_sound.specs.Ledger.{Ledger}
 use Rattle.mount_sound.specs.Sound.{AreSound}
 use Rattle.mount_sound.proofs.Calls.Aside.{HasSoundFlats}

@@ -28,7 +28,7 @@ use Rattle.mount_model.specs.History.{Event, state_after, told_tree_after}
 use Rattle.mount_model.specs.Making.{Told}
 use Rattle.mount_model.specs.Paths.{flat_path, installed, installed_item, temporary, temporary_item}
 use Rattle.mount_model.specs.State.{State, Table}
-use Rattle.mount_shape.specs.Named.{FitsNames}
+use Rattle.mount_sound.specs.Named.{FitsNames}
 use Rattle.index_pack.specs.Spelling.{Packs}
 use Rattle.index_pack.specs.Valid.{CanBePacked}
 use Rattle.plfs_types.specs.declared.limits.TheConstants.{MAX_PACKED}

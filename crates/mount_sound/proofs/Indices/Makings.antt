@@ -6,7 +6,7 @@ use Rattle.store_api.specs.declared.tree.Room.{Room}
 use Rattle.mount_model.specs.declared.row.Making.{Making}
 use Rattle.mount_model.specs.declared.row.Making.TheVariants as making
 use Rattle.mount_model.specs.Paths.{installed_item, temporary_item}
-use Rattle.mount_shape.specs.Named.{FitsNames}
+use Rattle.mount_sound.specs.Named.{FitsNames}
 use Rattle.mount_sound.specs.Flats.{IsBegunIn, IsRightFor, IsRightPack}
 use Rattle.mount_sound.proofs.Soundness.Items.{owner}
 

@@ -19,7 +19,7 @@ use Rattle.store_laws.specs.Naming.{NamesKept, KeepsRoom}
 use Rattle.store_laws.specs.Tells.{Tells}
 use Rattle.store_laws.proofs.Facts.{look_told, changed_room, other_room, earlier_room, prefix_length, has_folder_same, acts_told, keeps_rooms, make_room_told, create_told}
 use Rattle.mount_model.specs.declared.row.Row.{Row}
-use Rattle.mount_model.specs.declared.trouble.MountTrouble.{MountTrouble}
+use Rattle.mount_model.specs.declared.mount_trouble.MountTrouble.{MountTrouble}
 use Rattle.mount_model.specs.Failing.{FailsToMount, no_room, no_names, no_next, no_mark}
 use Rattle.mount_model.specs.Making.{Told}
 use Rattle.mount_model.specs.Mounting.{marks_step, list_step, mark_step, IsMounted}
@@ -28,9 +28,9 @@ use Rattle.store_api.specs.Names.{marks_folder}
 use Rattle.store_api.specs.Names.{marks_name}
 use Rattle.mount_model.specs.State.{State, last_id}
 use Rattle.mount_model.proofs.Facts.{mounted_regular}
-use Rattle.mount_shape.specs.Marks.{IsMarksRoom, IsOfMark}
-use Rattle.mount_shape.specs.Shape.{IsShapedTree, IsDrawnBy, IsShaped}
-use Rattle.mount_shape.proofs.Facts.{mounted_shape, failed_shape}
+use Rattle.mount_sound.specs.Marks.{IsMarksRoom, IsOfMark}
+use Rattle.mount_sound.specs.Shape.{IsShapedTree, IsDrawnBy, IsShaped}
+use Rattle.mount_sound.proofs.Shapes.Facts.{mounted_shape, failed_shape}
 use Rattle.mount_sound.specs.Entries.{AreEntriesOf}
 use Rattle.mount_sound.specs.Ledger.{Written, entries_in, content, AreFull, Ledger}
 use Rattle.mount_sound.specs.Dropping.{bytes_of, IsWriter}

@@ -42,8 +42,8 @@ use Rattle.mount_model.specs.Step.{IsStep}
 use Rattle.mount_model.specs.Table.{flattening_at}
 use Rattle.mount_model.specs.Writing.{write_step}
 use Rattle.mount_model.proofs.Facts.{all-unmap, flattening_at_all}
-use Rattle.mount_shape.specs.Named.{FitsNames}
-use Rattle.mount_shape.proofs.Facts.{id_fits}
+use Rattle.mount_sound.specs.Named.{FitsNames}
+use Rattle.mount_sound.proofs.Shapes.Facts.{id_fits}
 use Rattle.mount_sound.specs.Dropping.{bytes_of, log_bytes}
 use Rattle.mount_sound.specs.Growing.{ItemsStay, Stays, least_length}
 use Rattle.mount_sound.specs.Items.{HasItem}

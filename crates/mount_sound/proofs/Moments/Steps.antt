@@ -14,10 +14,10 @@ use Rattle.mount_model.specs.Stopped.{IsCutShort, IsLeftBy}
 use Rattle.mount_model.specs.Step.{Answers, IsStep, IsOwed}
 use Rattle.mount_model.specs.Regular.{IsRegular}
 use Rattle.mount_model.proofs.Facts.{step_cases, rows_of, regular_of, regular_for, step_regular, stop_replies, stop_left}
-use Rattle.mount_shape.specs.Shape.{IsShaped}
+use Rattle.mount_sound.specs.Shape.{IsShaped}
 use Rattle.container_layout.specs.declared.items.Item.TheVariants.{Index}
-use Rattle.mount_shape.specs.Named.{MakesOfDrawn, NamesDrawnWriter}
-use Rattle.mount_shape.proofs.Facts.{shape_of, has_shape, item_drawn, step_shape}
+use Rattle.mount_sound.specs.Named.{MakesOfDrawn, NamesDrawnWriter}
+use Rattle.mount_sound.proofs.Shapes.Facts.{shape_of, has_shape, item_drawn, step_shape}
 use Rattle.mount_sound.specs.Ledger.{Ledger}
 use Rattle.mount_sound.specs.Issued.{issued_after}
 use Rattle.mount_sound.specs.Flats.{IsBegunIn}

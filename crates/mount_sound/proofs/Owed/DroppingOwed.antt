@@ -14,8 +14,8 @@ use Rattle.mount_model.specs.Paths.{index_path}
 use Rattle.mount_model.specs.State.{State, last_id}
 use Rattle.mount_model.specs.Step.{IsStep}
 use Rattle.mount_model.proofs.Facts.{step_stays_dead}
-use Rattle.mount_shape.specs.Marks.{IsMarksRoom}
-use Rattle.mount_shape.proofs.Facts.{item_drawn}
+use Rattle.mount_sound.specs.Marks.{IsMarksRoom}
+use Rattle.mount_sound.proofs.Shapes.Facts.{item_drawn}
 use Rattle.mount_sound.specs.Dropping.{bytes_of, log_bytes}
 use Rattle.mount_sound.specs.Growing.{ItemsStay, Stays}
 use Rattle.mount_sound.specs.Issued.{issued_after}

@@ -18,7 +18,7 @@ use Rattle.mount_model.specs.declared.row.Making.{Making}
 use Rattle.mount_model.specs.Entering.{next_id}
 use Rattle.mount_model.specs.Flattening.{OnFlattening, install_step}
 use Rattle.mount_model.specs.Paths.{installed_item, installed_of, temporary_item, temporary_of}
-use Rattle.mount_shape.specs.Named.{FitsNames}
+use Rattle.mount_sound.specs.Named.{FitsNames}
 use Rattle.mount_model.specs.Regular.{IsRegular}
 use Rattle.mount_model.specs.State.{State, Table, timed}
 use Rattle.mount_model.specs.Step.{Answers, IsStep}

@@ -5,9 +5,9 @@ use Rattle.store_api.specs.declared.tree.Room.{Room}
 use Rattle.store_api.specs.declared.tree.Tree.{Tree}
 use Rattle.mount_model.specs.declared.row.Row.{Row}
 use Rattle.mount_model.specs.State.{State}
-use Rattle.mount_shape.specs.Marks.{IsOfMark}
-use Rattle.mount_shape.specs.Shape.{IsShapedTree}
-use Rattle.mount_shape.proofs.Facts.{left_shaped, empty_shaped}
+use Rattle.mount_sound.specs.Marks.{IsOfMark}
+use Rattle.mount_sound.specs.Shape.{IsShapedTree}
+use Rattle.mount_sound.proofs.Shapes.Facts.{left_shaped, empty_shaped}
 use Rattle.mount_sound.specs.Flats.{AreRightFlats}
 use Rattle.mount_sound.specs.Ledger.{AreWritesOf, Ledger}
 use Rattle.mount_sound.specs.Sound.{AreSoundRooms, IsSoundFor, IsSoundTree}

@@ -21,9 +21,9 @@ use Rattle.mount_model.specs.Regular.{IsRegular}
 use Rattle.mount_model.specs.State.{State, Table, last_id, drawn}
 use Rattle.mount_model.specs.Table.{row_of}
 use Rattle.mount_model.proofs.Facts.{may_enter, row_of_id, row_of_other-push}
-use Rattle.mount_shape.specs.Container.{IsOfId, IsContainer}
-use Rattle.mount_shape.specs.Shape.{IsDrawnBy, IsShaped}
-use Rattle.mount_shape.proofs.Facts.{item_held, id_fits}
+use Rattle.mount_sound.specs.Container.{IsOfId, IsContainer}
+use Rattle.mount_sound.specs.Shape.{IsDrawnBy, IsShaped}
+use Rattle.mount_sound.proofs.Shapes.Facts.{item_held, id_fits}
 use Rattle.mount_sound.specs.Items.{HasItemOf}
 use Rattle.mount_sound.specs.Ledger.{Ledger}
 use Rattle.mount_sound.specs.Dropping.{log_bytes, IsDropping, IsWriter}

@@ -6,7 +6,7 @@ use Rattle.std.specs.List.{AllByRecursion, range_with_len}
 use Rattle.plfs_types.specs.Counts.{HasRisen}
 use Rattle.plain_file.specs.declared.pieces.Piece.{Piece}
 use Rattle.read_plan.specs.Plan.{plan_of}
-use Rattle.story.specs.Program.{Program, done, ask, followed_by}
+use Rattle.mount_model.specs.Program.{Program, done, ask, followed_by}
 use Rattle.mount_model.specs.declared.call.Ask.{Ask}
 use Rattle.mount_model.specs.declared.call.Call.{Call}
 use Rattle.mount_model.specs.declared.reply.Reply.{Reply}
@@ -14,10 +14,10 @@ use Rattle.mount_model.specs.Replies.{FitsAsk, FitsCall}
 use Rattle.mount_model.specs.History.{Event, state_after}
 use Rattle.mount_model.specs.Paths.{Name}
 use Rattle.mount_model.specs.State.{State}
-use Rattle.flow.specs.declared.stuck.Stuck.{Stuck as Trouble}
-use Rattle.flow.specs.declared.stuck.Stuck.TheVariants as trouble
-use Rattle.flow.specs.Running.{Runs}
-use Rattle.flow.proofs.Facts.{runs_done, runs_next}
+use Rattle.mount_model.specs.declared.stuck.Stuck.{Stuck as Trouble}
+use Rattle.mount_model.specs.declared.stuck.Stuck.TheVariants as trouble
+use Rattle.mount_model.specs.Running.{Runs}
+use Rattle.mount_model.proofs.Flows.Facts.{runs_done, runs_next}
 use Rattle.lone_flow.specs.Driving.{Makes, greets_first}
 use Rattle.run_core.proofs.Facts.{AreWell, EndsIn, IsAnswered, IsFine, IsWell, Looks, NoFault, close_well, each_looks, ends_well, is_no_fault, keeps_well, listing_looks, never_falls, open_well, read_looks, risen_before, stays_well, sync_stays, then_looks, truncs_look, well_or_risen, write_stays}
 use Rattle.index_reader.specs.declared.listing.Listing.{Listing}
@@ -43,15 +43,15 @@ use Rattle.pack_files.specs.declared.scan.ScanStuck.{ScanStuck}
 use Rattle.pack_files.specs.declared.scan.ScanStuck.TheVariants.{Bad, Stuck}
 use Rattle.pack_files.specs.Putting.{put_program}
 use Rattle.pack_files.specs.Scanning.{Scans, chunk_size, further, read_then, region_end, scan_program, scans, told_as}
-use Rattle.pack_core.specs.Naming.{Names}
-use Rattle.pack_core.specs.Naming as naming
-use Rattle.pack_core.specs.Scans.{ScansAll, ScansFrom}
-use Rattle.pack_core.specs.Unpacking.{ReadsFound, ReadsIn, Unpacks, opens as opens_so, opens_stuck, reads, scans_stuck}
+use Rattle.lone_flow.specs.Naming.{Names}
+use Rattle.lone_flow.specs.Naming as naming
+use Rattle.lone_flow.specs.Scans.{ScansAll, ScansFrom}
+use Rattle.lone_flow.specs.Unpacking.{ReadsFound, ReadsIn, Unpacks, opens as opens_so, opens_stuck, reads, scans_stuck}
 use Rattle.pack_input.specs.declared.files.NamedFile.{NamedFile}
-use Rattle.pack_puts.specs.declared.packing.Packed.{Packed}
-use Rattle.pack_puts.proofs.Facts.{EndsSo, LastsBehind, WritersEnd, stuck_of, writer_so}
-use Rattle.pack_puts.specs.Beginning.{BeginsAt, BeginsWithout, ScansFor, opens as begins_opened, opens_none}
-use Rattle.pack_puts.specs.Packing.{Packs, begins_stuck, goes_on}
+use Rattle.lone_flow.specs.declared.packing.Packed.{Packed}
+use Rattle.lone_flow.proofs.SmallPuts.Facts.{EndsSo, LastsBehind, WritersEnd, stuck_of, writer_so}
+use Rattle.lone_flow.specs.Beginning.{BeginsAt, BeginsWithout, ScansFor, opens as begins_opened, opens_none}
+use Rattle.lone_flow.specs.Packing.{Packs, begins_stuck, goes_on}
 use Rattle.packing_laws.specs.Troubles.{TellsFault}
 
 -- ---- programs that end so while no fault is answered

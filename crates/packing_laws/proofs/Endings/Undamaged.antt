@@ -1,19 +1,19 @@
 -- Who unpacks, names or packs by itself, where the container has only units, is told of no damage.
 use Rattle.std.proofs.Common.{◌≡◌, ℕ, ◌<◌, List, [], ◌∷◌, length, Option, Some, None, Result, Ok, Err, refl, sym, subst, arith, inl, inr}
-use Rattle.story.specs.Program.{Program}
+use Rattle.mount_model.specs.Program.{Program}
 use Rattle.mount_model.specs.declared.call.Call.{Call}
 use Rattle.mount_model.specs.declared.reply.Reply.{Reply}
 use Rattle.mount_model.specs.History.{Event, state_after}
 use Rattle.mount_model.specs.Paths.{Name}
 use Rattle.mount_model.specs.State.{State}
-use Rattle.flow.specs.declared.stuck.Stuck.{Stuck as Trouble}
-use Rattle.flow.specs.declared.stuck.Stuck.TheVariants as trouble
+use Rattle.mount_model.specs.declared.stuck.Stuck.{Stuck as Trouble}
+use Rattle.mount_model.specs.declared.stuck.Stuck.TheVariants as trouble
 use Rattle.lone_flow.specs.Driving.{Makes}
 use Rattle.trouble_laws.specs.Ends.{AlwaysEnds}
 use Rattle.trouble_laws.specs.Undamaged.{IsNoDamage, IsUndamaged}
 use Rattle.index_reader.specs.declared.opened.OpenReader.{OpenReader}
-use Rattle.gathering.specs.Moments.{IsSoundAt, Moment, next_moment}
-use Rattle.gathering.proofs.Facts.{sound_after}
+use Rattle.reader_laws.specs.Moments.{IsSoundAt, Moment, next_moment}
+use Rattle.reader_laws.proofs.Gathered.Facts.{sound_after}
 use Rattle.reader_laws.specs.Failing.{FailsOrLacks}
 use Rattle.writer_flow.specs.declared.handle.WriterHandle.{WriterHandle}
 use Rattle.writer_flow.specs.declared.handle.WriterOut.{WriterOut}
@@ -28,17 +28,17 @@ use Rattle.pack_files.specs.declared.scan.ScanStuck.{ScanStuck}
 use Rattle.pack_files.specs.declared.scan.ScanStuck.TheVariants.{Bad, Stuck}
 use Rattle.pack_files.specs.Scanning.{scan_program}
 use Rattle.pack_laws.specs.Scanned.{IsScanOf}
-use Rattle.pack_core.specs.Naming.{Names}
-use Rattle.pack_core.specs.Naming as naming
-use Rattle.pack_core.specs.Unpacking.{Unpacks, opens, opens_stuck}
+use Rattle.lone_flow.specs.Naming.{Names}
+use Rattle.lone_flow.specs.Naming as naming
+use Rattle.lone_flow.specs.Unpacking.{Unpacks, opens, opens_stuck}
 use Rattle.pack_input.specs.declared.files.NamedFile.{NamedFile}
-use Rattle.pack_puts.specs.declared.packing.Packed.{Packed}
-use Rattle.pack_puts.proofs.Facts.{EndsSo, LastsBehind, WritersEnd, stuck_of, writer_so}
-use Rattle.pack_puts.specs.Beginning.{BeginsAt}
-use Rattle.pack_puts.specs.Beginning as beginning
-use Rattle.pack_puts.specs.Packing.{Packs, begins_stuck, goes_on}
-use Rattle.unpack_laws.specs.Told.{AreNames, IsContent, IsTroubleOf}
-use Rattle.unpack_laws.proofs.Facts.{Follows, OpeningsEnd, ReadLaw, ReadTrouble, ScanLaw, content_so, follows, names_so}
+use Rattle.lone_flow.specs.declared.packing.Packed.{Packed}
+use Rattle.lone_flow.proofs.SmallPuts.Facts.{EndsSo, LastsBehind, WritersEnd, stuck_of, writer_so}
+use Rattle.lone_flow.specs.Beginning.{BeginsAt}
+use Rattle.lone_flow.specs.Beginning as beginning
+use Rattle.lone_flow.specs.Packing.{Packs, begins_stuck, goes_on}
+use Rattle.packing_laws.specs.Told.{AreNames, IsContent, IsTroubleOf}
+use Rattle.packing_laws.proofs.Unpacking.Facts.{Follows, OpeningsEnd, ReadLaw, ReadTrouble, ScanLaw, content_so, follows, names_so}
 use Rattle.packing_laws.specs.HasOnly.{IsOfUnits}
 use Rattle.packing_laws.specs.OnlyUnits.{Filing}
 use Rattle.packing_laws.specs.Troubles.{TellsNoDamage}

@@ -24,12 +24,12 @@ use Rattle.mount_sound.specs.There.{landed_entries}
 use Rattle.mount_sound.specs.Owed.{IsLawful}
 use Rattle.mount_sound.specs.Sound.{IsSoundFor}
 use Rattle.mount_sound.proofs.Facts.{kept_landed, lawful_first, mounted_keeps, mounted_sound, one_tree, same_host, writer_told, writes_take}
-use Rattle.gathering.specs.Gathering.{Gathered, IsPrefixOf}
+use Rattle.reader_laws.specs.Gathering.{Gathered, IsPrefixOf}
 use Rattle.plfs_types.specs.Places.{IsAmong}
-use Rattle.gathering.specs.Moments.{Dropping, Grows, HadItem, IsSoundAt, Moment, Stood, file_in_room, file_told, issued_by, landed, landed_by, moment_after}
-use Rattle.gathering.specs.Opening.{HasView}
-use Rattle.gathering.specs.View.{writes_in}
-use Rattle.gathering.proofs.Facts.{among_left, among_right, any_found, follows, found_any, grows_after, in_a_room, in_tree, is_among, landed_at, legal_rest, length-entries, prefix_of, sound_after}
+use Rattle.reader_laws.specs.Moments.{Dropping, Grows, HadItem, IsSoundAt, Moment, Stood, file_in_room, file_told, issued_by, landed, landed_by, moment_after}
+use Rattle.reader_laws.specs.GatheringOpening.{HasView}
+use Rattle.reader_laws.specs.View.{writes_in}
+use Rattle.reader_laws.proofs.Gathered.Facts.{among_left, among_right, any_found, follows, found_any, grows_after, in_a_room, in_tree, is_among, landed_at, legal_rest, length-entries, prefix_of, sound_after}
 use Rattle.index_reader.specs.declared.opened.OpenReader.{OpenReader}
 use Rattle.reader_laws.specs.Opened.{HasOpenedIn}
 use Rattle.plain_file.proofs.Facts.{Among}

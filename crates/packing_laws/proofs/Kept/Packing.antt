@@ -4,8 +4,8 @@ use Rattle.std.proofs.lemmas.List.{append-nil, append_assoc}
 use Rattle.mount_model.specs.Paths.{Name}
 use Rattle.mount_model.specs.State.{State}
 use Rattle.mount_sound.specs.Ledger.{Written}
-use Rattle.flow.specs.declared.stuck.Stuck.{Stuck as Trouble}
-use Rattle.flow.specs.declared.stuck.Stuck.TheVariants.{Fault}
+use Rattle.mount_model.specs.declared.stuck.Stuck.{Stuck as Trouble}
+use Rattle.mount_model.specs.declared.stuck.Stuck.TheVariants.{Fault}
 use Rattle.pack_files.specs.declared.scan.ScanStuck.{ScanStuck}
 use Rattle.pack_files.specs.declared.scan.ScanStuck.TheVariants.{Stuck}
 use Rattle.lone_flow.specs.Driving.{Makes}
@@ -18,19 +18,19 @@ use Rattle.opening_flow.specs.Opening.{opening_program}
 use Rattle.unit_format.specs.declared.units.TheConstants.{REGION_SIZE}
 use Rattle.pack_laws.specs.Scanned.{region_start, region_stop}
 use Rattle.unit_format.specs.Units.{unit_size, unit_spelling}
-use Rattle.gathering.specs.Moments.{Dropping, IsSoundAt, Moment, moment_after, next_moment}
-use Rattle.gathering.proofs.Facts.{follows, sound_after}
+use Rattle.reader_laws.specs.Moments.{Dropping, IsSoundAt, Moment, moment_after, next_moment}
+use Rattle.reader_laws.proofs.Gathered.Facts.{follows, sound_after}
 use Rattle.reader_laws.specs.Naming.{IsRoomNamed}
 use Rattle.pack_files.specs.Scanning.{scan_program}
 use Rattle.pack_files.specs.Putting.{put_program}
 use Rattle.pack_input.specs.declared.files.NamedFile.{NamedFile}
-use Rattle.pack_puts.specs.declared.packing.Packed.{Packed}
-use Rattle.pack_puts.specs.declared.packing.Packed.TheVariants as packed
-use Rattle.pack_puts.specs.Beginning.{BeginsAt, opens, opens_none}
-use Rattle.pack_puts.specs.Packing.{EndsPuts, Packs, PacksFrom, begins_stuck, goes_on, puts as put_so, writer_stuck}
-use Rattle.pack_puts.specs.Putting.{IsNoMore, PutsAll, PutsEach, full, made, put_of, small_file}
-use Rattle.pack_puts.proofs.Facts.{put_cases}
-use Rattle.pack_puts.specs.Settling.{Closes, Settles}
+use Rattle.lone_flow.specs.declared.packing.Packed.{Packed}
+use Rattle.lone_flow.specs.declared.packing.Packed.TheVariants as packed
+use Rattle.lone_flow.specs.Beginning.{BeginsAt, opens, opens_none}
+use Rattle.lone_flow.specs.Packing.{EndsPuts, Packs, PacksFrom, begins_stuck, goes_on, puts as put_so, writer_stuck}
+use Rattle.lone_flow.specs.Putting.{IsNoMore, PutsAll, PutsEach, full, made, put_of, small_file}
+use Rattle.lone_flow.proofs.SmallPuts.Facts.{put_cases}
+use Rattle.lone_flow.specs.Settling.{Closes, Settles}
 use Rattle.packing_laws.specs.Lasting.{KeepsWrites}
 use Rattle.packing_laws.specs.Packed.{ArePuts, HasPacked, HasPut}
 use Rattle.packing_laws.proofs.OnlyUnits.Alone.{Comes, IsMade, Reaches, comes_both, comes_none, is_made, made_reaches, reaches_on}

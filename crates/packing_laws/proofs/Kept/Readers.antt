@@ -5,12 +5,12 @@ use Rattle.mount_model.specs.Paths.{Name}
 use Rattle.mount_model.specs.State.{State}
 use Rattle.mount_sound.specs.Owed.{IsLawful}
 use Rattle.index_reader.specs.declared.opened.OpenReader.{OpenReader}
-use Rattle.gathering.specs.Moments.{IsSoundAt, Moment, moment_after}
-use Rattle.gathering.proofs.Facts.{sound_after}
+use Rattle.reader_laws.specs.Moments.{IsSoundAt, Moment, moment_after}
+use Rattle.reader_laws.proofs.Gathered.Facts.{sound_after}
 use Rattle.reader_laws.specs.Opened.{HasOpenedIn}
 use Rattle.pack_input.specs.declared.files.NamedFile.{NamedFile}
-use Rattle.pack_puts.specs.declared.packing.Packed.TheVariants as packed
-use Rattle.pack_puts.specs.Packing.{Packs}
+use Rattle.lone_flow.specs.declared.packing.Packed.TheVariants as packed
+use Rattle.lone_flow.specs.Packing.{Packs}
 use Rattle.packing_laws.specs.Lasting.{HoldsWrites, IsLater}
 use Rattle.packing_laws.specs.Packed.{HasPacked, packed_by}
 use Rattle.packing_laws.proofs.Kept.Lasting.{KeptLaw, keeps_mounts, opened_holds}

@@ -9,12 +9,12 @@ use Rattle.mount_model.specs.History.{Event, state_after}
 use Rattle.mount_model.specs.State.{State}
 use Rattle.mount_sound.specs.Issued.{issued_after}
 use Rattle.mount_sound.specs.Owed.{IsLawful}
-use Rattle.story.specs.Program.{Program}
-use Rattle.flow.specs.Running.{Runs, unbroken}
-use Rattle.flow.proofs.Facts.{runs_next}
+use Rattle.mount_model.specs.Program.{Program}
+use Rattle.mount_model.specs.Running.{Runs, unbroken}
+use Rattle.mount_model.proofs.Flows.Facts.{runs_next}
 use Rattle.lone_flow.specs.Driving.{Makes, greets_first}
-use Rattle.gathering.specs.Moments.{Moment, moment_after, next_moment}
-use Rattle.gathering.proofs.Facts.{follows, moment-append}
+use Rattle.reader_laws.specs.Moments.{Moment, moment_after, next_moment}
+use Rattle.reader_laws.proofs.Gathered.Facts.{follows, moment-append}
 
 -- ---- from one moment to another
 

@@ -21,10 +21,10 @@ use Rattle.mount_sound.specs.Ledger.{Ledger, Written}
 use Rattle.mount_sound.specs.Owed.{IsLawful}
 use Rattle.mount_sound.specs.There.{entries_there}
 use Rattle.mount_sound.proofs.Facts.{ActsOn, OfEachAct, step_acts}
-use Rattle.gathering.specs.Moments.{Dropping, HadItem, HadTrunc, IsSoundAt, Moment, Stood, file_told, issued_by, landed, moment_after, next_moment}
+use Rattle.reader_laws.specs.Moments.{Dropping, HadItem, HadTrunc, IsSoundAt, Moment, Stood, file_told, issued_by, landed, moment_after, next_moment}
 use Rattle.mount_sound.specs.Ledger.{change_of}
-use Rattle.gathering.proofs.Facts.{sound_after}
-use Rattle.pack_core.specs.Looking.{GreetsOrLooks}
+use Rattle.reader_laws.proofs.Gathered.Facts.{sound_after}
+use Rattle.lone_flow.specs.Looking.{GreetsOrLooks}
 use Rattle.packing_laws.specs.HasOnly.{HasOnlyUnits}
 use Rattle.packing_laws.specs.OnlyUnits.{Filing, PutsUnit}
 

@@ -25,9 +25,9 @@ use Rattle.mount_sound.specs.Items.{HasItem}
 use Rattle.mount_sound.specs.Ledger.{Written}
 use Rattle.mount_sound.specs.Sound.{IsSoundTree}
 use Rattle.mount_sound.proofs.Facts.{one_tree}
-use Rattle.gathering.specs.Moments.{Moment, file_told, issued_by, landed}
+use Rattle.reader_laws.specs.Moments.{Moment, file_told, issued_by, landed}
 use Rattle.mount_sound.specs.Ledger.{change_of}
-use Rattle.gathering.proofs.Facts.{in_a_room}
+use Rattle.reader_laws.proofs.Gathered.Facts.{in_a_room}
 use Rattle.packing_laws.specs.HasOnly.{IsOfUnits, TreeIsOfUnits, TreeHasOnlyUnits}
 use Rattle.packing_laws.specs.OnlyUnits.{Filing, PutsUnit}
 

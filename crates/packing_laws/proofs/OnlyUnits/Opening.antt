@@ -11,12 +11,12 @@ use Rattle.store_laws.specs.Says.{FindTells}
 use Rattle.store_laws.specs.Tells.{Tells}
 use Rattle.store_laws.specs.There.{IsRoomOf}
 use Rattle.store_laws.proofs.Facts.{acts_told, find_tells, look_answered}
-use Rattle.story.specs.Calls.{AreCallsOf}
-use Rattle.story.specs.Program.{Program, done, ask, followed_by}
-use Rattle.flow.specs.declared.stuck.Stuck.{Stuck as Trouble}
-use Rattle.flow.specs.Replies.{Tries, given, on_ok, room_in, trouble}
-use Rattle.flow.specs.Running.{Runs, asking}
-use Rattle.flow.proofs.Facts.{runs_done, runs_in_two, runs_next}
+use Rattle.mount_model.specs.Calls.{AreCallsOf}
+use Rattle.mount_model.specs.Program.{Program, done, ask, followed_by}
+use Rattle.mount_model.specs.declared.stuck.Stuck.{Stuck as Trouble}
+use Rattle.mount_model.specs.FlowReplies.{Tries, given, on_ok, room_in, trouble}
+use Rattle.mount_model.specs.Running.{Runs, asking}
+use Rattle.mount_model.proofs.Flows.Facts.{runs_done, runs_in_two, runs_next}
 use Rattle.mount_model.specs.declared.call.Ask.{Ask}
 use Rattle.mount_model.specs.declared.call.Call.{Call}
 use Rattle.mount_model.specs.declared.call.Call.TheVariants.{Find, Look}
@@ -40,11 +40,11 @@ use Rattle.index_reader.proofs.Facts.{IsLook, OnlyLooks, listing_looks, share_lo
 use Rattle.gather_flow.specs.declared.all_read.AllRead.{AllRead}
 use Rattle.gather_flow.specs.Dealing.{dealt_to}
 use Rattle.gather_flow.specs.Gathering.{if_truncs_listed, reads_truncs, shares_from}
-use Rattle.gathering.specs.Moments.{IsSoundAt, Moment, next_moment}
-use Rattle.gathering.proofs.Facts.{sound_after}
+use Rattle.reader_laws.specs.Moments.{IsSoundAt, Moment, next_moment}
+use Rattle.reader_laws.proofs.Gathered.Facts.{sound_after}
 use Rattle.reader_laws.proofs.Facts.{answered, at_run}
 use Rattle.opening_flow.specs.Opening.{opening_program, opens, reads_as}
-use Rattle.pack_core.specs.Looking.{GreetsOrLooks}
+use Rattle.lone_flow.specs.Looking.{GreetsOrLooks}
 use Rattle.packing_laws.proofs.OnlyUnits.Alone.{IsMade}
 use Rattle.packing_laws.proofs.OnlyUnits.Looking.{AllLook, look_tree}
 

@@ -9,17 +9,17 @@ use Rattle.mount_sound.specs.Owed.{IsLawful}
 use Rattle.mount_sound.proofs.Facts.{lawful_first}
 use Rattle.lone_flow.specs.Driving.{Makes}
 use Rattle.index_reader.specs.declared.opened.OpenReader.{OpenReader}
-use Rattle.gathering.specs.Moments.{IsSoundAt, Moment, moment_after, next_moment}
-use Rattle.gathering.specs.View.{changes_in}
-use Rattle.gathering.proofs.Facts.{legal_rest, sound_after}
+use Rattle.reader_laws.specs.Moments.{IsSoundAt, Moment, moment_after, next_moment}
+use Rattle.reader_laws.specs.View.{changes_in}
+use Rattle.reader_laws.proofs.Gathered.Facts.{legal_rest, sound_after}
 use Rattle.reader_laws.specs.Opened.{HasOpenedIn}
 use Rattle.opening_flow.specs.Opening.{opening_program}
 use Rattle.unit_format.specs.declared.units.TheConstants.{REGION_SIZE}
 use Rattle.unit_format.specs.Regions.{IsBadRegion, IsRegion}
 use Rattle.pack_laws.specs.Scanned.{region_bytes, region_start, region_stop}
-use Rattle.pack_core.specs.Looking.{GreetsOrLooks}
-use Rattle.unpack_laws.specs.Seen.{file_seen}
-use Rattle.unpack_laws.proofs.Facts.{HasReached, HasSeen, OpeningsEnd, ReadLaw, ReadTrouble, ReadsFail, ReadsTell, ScanLaw, ScansTell, has_seen, reads_fail, reads_tell, scans_tell}
+use Rattle.lone_flow.specs.Looking.{GreetsOrLooks}
+use Rattle.packing_laws.specs.Seen.{file_seen}
+use Rattle.packing_laws.proofs.Unpacking.Facts.{HasReached, HasSeen, OpeningsEnd, ReadLaw, ReadTrouble, ReadsFail, ReadsTell, ScanLaw, ScansTell, has_seen, reads_fail, reads_tell, scans_tell}
 use Rattle.packing_laws.specs.HasOnly.{HasOnlyUnits, IsOfUnits}
 use Rattle.packing_laws.specs.OnlyUnits.{AreOnlyUnits, Filing}
 use Rattle.packing_laws.proofs.OnlyUnits.Alone.{IsMade, is_made}

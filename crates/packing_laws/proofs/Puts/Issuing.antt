@@ -13,7 +13,7 @@ use Rattle.mount_model.specs.Table.{row_of}
 use Rattle.mount_model.proofs.Facts.{row_of_id}
 use Rattle.mount_sound.specs.Issued.{issued_after, noted, with_write, written_by}
 use Rattle.mount_sound.specs.Ledger.{Ledger, Written}
-use Rattle.gathering.specs.Moments.{Moment, moment_after, next_moment}
+use Rattle.reader_laws.specs.Moments.{Moment, moment_after, next_moment}
 use Rattle.writer_laws.specs.Counting.{StaysIn, wrote_by, wrote_count, writes_told}
 
 -- ---- a call that tells of no write of this writer

@@ -22,13 +22,13 @@ use Rattle.mount_model.specs.State.{State, Table}
 use Rattle.mount_model.specs.Step.{IsStep}
 use Rattle.mount_sound.specs.Owed.{IsLawful}
 use Rattle.mount_sound.proofs.Facts.{one_tree}
-use Rattle.flow.specs.Running.{unbroken}
+use Rattle.mount_model.specs.Running.{unbroken}
 use Rattle.writer_flow.specs.declared.handle.WriterHandle.{WriterHandle}
 use Rattle.writer_flow.specs.Opening.{open_program}
 use Rattle.writer_laws.specs.Knowing.{HasRow}
 use Rattle.writer_laws.proofs.Facts.{EnteredBy, entered_by}
-use Rattle.gathering.specs.Moments.{Dropping, IsSoundAt, Moment, moment_after, next_moment}
-use Rattle.gathering.proofs.Facts.{follows, legal_first, legal_rest, moment-append, sound_after}
+use Rattle.reader_laws.specs.Moments.{Dropping, IsSoundAt, Moment, moment_after, next_moment}
+use Rattle.reader_laws.proofs.Gathered.Facts.{follows, legal_first, legal_rest, moment-append, sound_after}
 use Rattle.reader_laws.proofs.Facts.{answered}
 use Rattle.reader_laws.specs.Naming.{IsRoomNamed}
 use Rattle.packing_laws.proofs.OnlyUnits.Alone.{Comes, IsMade, behind}

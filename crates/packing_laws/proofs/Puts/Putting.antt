@@ -10,15 +10,15 @@ use Rattle.mount_model.specs.State.{State}
 use Rattle.mount_model.specs.Table.{row_of}
 use Rattle.mount_sound.specs.Ledger.{Written}
 use Rattle.mount_sound.specs.Owed.{IsLawful}
-use Rattle.flow.specs.Running.{unbroken}
+use Rattle.mount_model.specs.Running.{unbroken}
 use Rattle.writer_flow.specs.declared.handle.WriterHandle.{WriterHandle}
 use Rattle.writer_flow.specs.declared.handle.WriterOut.{WriterOut}
 use Rattle.writer_flow.specs.Writing.{write_program}
 use Rattle.writer_laws.specs.Knowing.{HasRow, KeepsHandle, Knows}
 use Rattle.writer_laws.specs.Waiting.{LeavesAlone, LetsBe}
 use Rattle.writer_laws.proofs.Facts.{Goes, goes, handle_waits, some_eq, write_ends, write_list}
-use Rattle.gathering.specs.Moments.{Dropping, Moment, issued_by, moment_after, next_moment}
-use Rattle.gathering.proofs.Facts.{follows}
+use Rattle.reader_laws.specs.Moments.{Dropping, Moment, issued_by, moment_after, next_moment}
+use Rattle.reader_laws.proofs.Gathered.Facts.{follows}
 use Rattle.packing_laws.proofs.OnlyUnits.Alone.{IsMade, Reaches, greeting_issues, made_reaches}
 use Rattle.packing_laws.proofs.Puts.Writing.{OneWrite, is_writing, write_of}
 

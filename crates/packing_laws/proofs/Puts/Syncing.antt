@@ -26,8 +26,8 @@ use Rattle.writer_flow.specs.Syncing.{sync_program}
 use Rattle.writer_laws.specs.Counting.{entry_count, writes_told}
 use Rattle.writer_laws.specs.Knowing.{HasRow, IsOpened, IsSynced, Knows}
 use Rattle.writer_laws.proofs.Facts.{Goes, Spares, goes, opened_ends, some_eq, sync_ends, sync_list}
-use Rattle.gathering.specs.Moments.{Dropping, IsSoundAt, Moment, issued_by, moment_after, next_moment}
-use Rattle.gathering.proofs.Facts.{follows, sound_after}
+use Rattle.reader_laws.specs.Moments.{Dropping, IsSoundAt, Moment, issued_by, moment_after, next_moment}
+use Rattle.reader_laws.proofs.Gathered.Facts.{follows, sound_after}
 use Rattle.packing_laws.specs.Lasting.{KeepsSome, KeepsWrites}
 use Rattle.packing_laws.proofs.OnlyUnits.Alone.{IsMade, behind, greeting_issues}
 use Rattle.packing_laws.proofs.Puts.Issuing.{none_told_issued}

@@ -1,7 +1,7 @@
 -- The write that a put makes, as the ledger has it.
 use Rattle.std.proofs.Common.{◌≡◌, ℕ, List, [], ◌∷◌, ◌++◌, Some, Ok, refl, sym, ap, ◌∙◌, subst, arith}
 use Rattle.turn_object.specs.Callers.{made_by}
-use Rattle.story.proofs.Facts.{entries_both}
+use Rattle.mount_model.proofs.Stories.Facts.{entries_both}
 use Rattle.mount_model.specs.declared.call.Ask.{Ask}
 use Rattle.mount_model.specs.declared.call.Call.TheVariants.{Write}
 use Rattle.mount_model.specs.declared.reply.Reply.{Reply}
@@ -14,15 +14,15 @@ use Rattle.mount_sound.specs.Issued.{issued_after, written_by}
 use Rattle.mount_sound.specs.Ledger.{Ledger, Written}
 use Rattle.mount_sound.specs.Owed.{IsLawful}
 use Rattle.mount_sound.proofs.Facts.{lawful_first}
-use Rattle.flow.specs.Running.{Runs, unbroken}
+use Rattle.mount_model.specs.Running.{Runs, unbroken}
 use Rattle.writer_flow.specs.declared.handle.WriterHandle.{WriterHandle}
 use Rattle.writer_flow.specs.declared.handle.WriterOut.{WriterOut}
 use Rattle.writer_flow.specs.Writing.{write_program}
 use Rattle.writer_laws.specs.Counting.{StaysIn, wrote_by, writes_told}
 use Rattle.writer_laws.specs.Knowing.{HasRow}
 use Rattle.writer_laws.proofs.Facts.{Goes, WriteTold, WroteBy, goes, write_list, writes_both, wrote_by_it}
-use Rattle.gathering.specs.Moments.{Dropping, Moment, issued_by, moment_after, next_moment}
-use Rattle.gathering.proofs.Facts.{follows, moment-append}
+use Rattle.reader_laws.specs.Moments.{Dropping, Moment, issued_by, moment_after, next_moment}
+use Rattle.reader_laws.proofs.Gathered.Facts.{follows, moment-append}
 use Rattle.packing_laws.proofs.Puts.Issuing.{counted, none_told_issued, one_issued, stays_first}
 
 -- ---- one write was answered, and no other

@@ -3,11 +3,11 @@ use Rattle.std.proofs.Common.{◌≡◌, ℕ, List, Option, Result, Ok}
 use Rattle.index_entry.specs.Records.{IsBytes}
 use Rattle.mount_model.specs.Paths.{Name}
 use Rattle.mount_model.specs.State.{State}
-use Rattle.gathering.specs.Moments.{IsSoundAt, Moment, next_moment}
+use Rattle.reader_laws.specs.Moments.{IsSoundAt, Moment, next_moment}
 use Rattle.pack_files.specs.declared.scan.ScanStuck.{ScanStuck}
-use Rattle.pack_core.specs.Unpacking.{Unpacks}
-use Rattle.unpack_laws.specs.Seen.{Sees, moment_seen, sees, sees_none}
-use Rattle.unpack_laws.specs.Told.{IsContent}
+use Rattle.lone_flow.specs.Unpacking.{Unpacks}
+use Rattle.packing_laws.specs.Seen.{Sees, moment_seen, sees, sees_none}
+use Rattle.packing_laws.specs.Told.{IsContent}
 use Rattle.packing_laws.specs.Isolated.{HaveSameUnits, SawContent, bytes_seen}
 use Rattle.packing_laws.proofs.SmallFiles.Isolating.{ApartLaw, OthersLaw, answers_same}
 

@@ -7,12 +7,12 @@ use Rattle.plain_file.specs.declared.changes.Change.TheVariants.{Write}
 use Rattle.plain_file.proofs.Facts.{Contains-from_Among}
 use Rattle.mount_model.specs.History.{Event, state_after}
 use Rattle.mount_sound.specs.Owed.{IsLawful}
-use Rattle.flow.specs.Running.{Runs}
+use Rattle.mount_model.specs.Running.{Runs}
 use Rattle.index_reader.specs.declared.opened.OpenReader.{OpenReader}
-use Rattle.gathering.specs.Gathering.{Gathered}
-use Rattle.gathering.specs.Moments.{IsSoundAt, Moment}
-use Rattle.gathering.specs.Opening.{HasView}
-use Rattle.gathering.specs.View.{changes_in, view}
+use Rattle.reader_laws.specs.Gathering.{Gathered}
+use Rattle.reader_laws.specs.Moments.{IsSoundAt, Moment}
+use Rattle.reader_laws.specs.GatheringOpening.{HasView}
+use Rattle.reader_laws.specs.View.{changes_in, view}
 use Rattle.reader_laws.specs.Opened.{HasOpenReader}
 use Rattle.unit_format.specs.Regions.{IsBadRegion, IsRegion}
 use Rattle.unit_format.specs.Units.{unit_spelling}

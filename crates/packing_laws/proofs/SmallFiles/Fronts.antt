@@ -17,8 +17,8 @@ use Rattle.unit_format.specs.declared.finding.Unit.{Unit as Found}
 use Rattle.unit_format.specs.declared.units.TheConstants.{REGIONS}
 use Rattle.unit_format.specs.Units.{SmallFile, unit_size, unit_spelling, units_spelling}
 use Rattle.pack_laws.specs.Scanned.{TellsUnits, region_start}
-use Rattle.unpack_laws.specs.Told.{AreRegionsFrom, IsContent, StandsIn}
-use Rattle.unpack_laws.proofs.Facts.{region_there}
+use Rattle.packing_laws.specs.Told.{AreRegionsFrom, IsContent, StandsIn}
+use Rattle.packing_laws.proofs.Unpacking.Facts.{region_there}
 use Rattle.packing_laws.specs.Answered.{IsOutranked}
 use Rattle.packing_laws.specs.HasOnly.{HasFirstUnits, IsWrittenAt}
 use Rattle.packing_laws.specs.Isolated.{HasUnit}

@@ -14,8 +14,8 @@ use Rattle.unit_format.specs.declared.finding.Unit.{Unit as Found}
 use Rattle.unit_format.specs.declared.units.TheConstants.{MAX_CONTENT}
 use Rattle.unit_format.specs.Units.{SmallFile, unit_size, unit_spelling}
 use Rattle.pack_laws.specs.Scanned.{TellsUnits}
-use Rattle.unpack_laws.specs.Told.{AreRegions, AreRegionsFrom, HasContent, IsContent, StandsIn}
-use Rattle.unpack_laws.proofs.Facts.{region_there, unit_stands}
+use Rattle.packing_laws.specs.Told.{AreRegions, AreRegionsFrom, HasContent, IsContent, StandsIn}
+use Rattle.packing_laws.proofs.Unpacking.Facts.{region_there, unit_stands}
 use Rattle.packing_laws.specs.Isolated.{HasUnit, HaveSameUnits}
 use Rattle.packing_laws.proofs.SmallFiles.OneSpelling.{one_unit, told_alike}
 

@@ -10,16 +10,16 @@ use Rattle.plain_file.proofs.Facts.{Among, Contains-from_Among}
 use Rattle.mount_sound.specs.Ledger.{Written}
 use Rattle.unit_format.specs.declared.units.TheConstants.{REGION_SIZE}
 use Rattle.unit_format.specs.Units.{SmallFile, unit_size, unit_spelling, units_spelling}
-use Rattle.gathering.specs.Gathering.{Gathered}
+use Rattle.reader_laws.specs.Gathering.{Gathered}
 use Rattle.plfs_types.specs.Places.{IsAmong}
-use Rattle.gathering.specs.Moments.{Dropping, Moment}
-use Rattle.gathering.specs.Opening.{HasView}
-use Rattle.gathering.specs.View.{changes_in, cut_off, writes_in}
+use Rattle.reader_laws.specs.Moments.{Dropping, Moment}
+use Rattle.reader_laws.specs.GatheringOpening.{HasView}
+use Rattle.reader_laws.specs.View.{changes_in, cut_off, writes_in}
 use Rattle.mount_sound.specs.Ledger.{change_of}
-use Rattle.gathering.proofs.Facts.{all_at, among, among_left}
+use Rattle.reader_laws.proofs.Gathered.Facts.{all_at, among, among_left}
 use Rattle.pack_input.specs.declared.files.NamedFile.{NamedFile}
 use Rattle.pack_laws.specs.Scanned.{region_start, region_stop}
-use Rattle.pack_puts.specs.Putting.{small_file}
+use Rattle.lone_flow.specs.Putting.{small_file}
 use Rattle.packing_laws.specs.HasOnly.{HasFirstUnits, HasOnlyUnits, IsWrittenAt}
 use Rattle.packing_laws.specs.Lasting.{HoldsWrites}
 use Rattle.packing_laws.specs.OnlyUnits.{AreOnlyUnits, Filing, HasUnitAt, PutsUnit}

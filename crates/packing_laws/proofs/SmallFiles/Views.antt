@@ -13,14 +13,14 @@ use Rattle.plain_file.specs.Shows.{ShowsNewest, truncs_of, write_at}
 use Rattle.plain_file.proofs.Facts.{Among, Among-at, ShowsNewest-plain}
 use Rattle.mount_sound.specs.Ledger.{Written}
 use Rattle.unit_format.specs.declared.units.TheConstants.{REGION_SIZE}
-use Rattle.gathering.specs.Gathering.{Gathered, IsAdmissible, IsPrefixOf}
-use Rattle.gathering.specs.Listing.{AreTruncsAt}
-use Rattle.gathering.specs.Moments.{HadTrunc, IsSoundAt, Moment, issued_by, landed}
-use Rattle.gathering.specs.Opening.{HasView}
-use Rattle.gathering.specs.View.{WritersRise, changes_in, cut_off, writes_in}
+use Rattle.reader_laws.specs.Gathering.{Gathered, IsAdmissible, IsPrefixOf}
+use Rattle.reader_laws.specs.GatheringListing.{AreTruncsAt}
+use Rattle.reader_laws.specs.Moments.{HadTrunc, IsSoundAt, Moment, issued_by, landed}
+use Rattle.reader_laws.specs.GatheringOpening.{HasView}
+use Rattle.reader_laws.specs.View.{WritersRise, changes_in, cut_off, writes_in}
 use Rattle.mount_sound.specs.Ledger.{change_of}
-use Rattle.gathering.proofs.Facts.{All-append}
-use Rattle.gathering.proofs.OpenReaders.Viewing.{bytes_all, keys_differ}
+use Rattle.reader_laws.proofs.Gathered.Facts.{All-append}
+use Rattle.reader_laws.proofs.Gathered.OpenReaders.Viewing.{bytes_all, keys_differ}
 use Rattle.unit_format.specs.Units.{SmallFile, unit_spelling}
 use Rattle.packing_laws.specs.HasOnly.{HasOnlyUnits, IsWrittenAt}
 use Rattle.packing_laws.specs.OnlyUnits.{AreOnlyUnits, Filing, PutsUnit}

@@ -4,10 +4,10 @@ use Rattle.std.specs.Prelude.{IfOk, OnErr}
 use Rattle.store_api.specs.Acts.{Stored}
 use Rattle.mount_model.specs.State.{State}
 use Rattle.mount_model.specs.Mounting.{IsMounted}
-use Rattle.pack_core.specs.Looking.{HasLooked}
+use Rattle.lone_flow.specs.Looking.{HasLooked}
 use Rattle.pack_input.specs.declared.files.NamedFile.{NamedFile}
-use Rattle.pack_puts.specs.Calling.{HasCalled}
-use Rattle.pack_puts.proofs.Calls.{begun_packing_called, packed_called}
+use Rattle.lone_flow.specs.Calling.{HasCalled}
+use Rattle.lone_flow.proofs.SmallPuts.Calls.{begun_packing_called, packed_called}
 use Rattle.script_lang.specs.declared.line.Line.{Line}
 use Rattle.script_lang.specs.declared.script.Script.{Script}
 use Rattle.script_lang.specs.Ranges.{FitsScript}
@@ -22,7 +22,7 @@ use Rattle.plfs_program.specs.Ways.{Way, HasBegun, HasLines, IsBrokenOff, by_tur
 use Rattle.plfs_program.specs.Migrating.{HasBegunIt}
 use Rattle.plfs_program.specs.Packing.{HasBegunToPack}
 use Rattle.plfs_program.specs.SmallFiles.{Begins, Does, HasBegunToRead}
-use Rattle.plfs_program.proofs.Courses.Plain.{counted_on, orderly_on, plain_on, still_on, story_on}
+use Rattle.plfs_program.proofs.Courses.Plain.{counted_on, orderly_on, plain_on, plainly_on, still_on, story_on}
 
 -- a mount was made, and the script was played on it
 pub was_played : (way : Way) (times : Option (List ℕ)) (before after : Stored) (script : Script) (lines : List Line) (start end : State) → FitsScript script → IsMounted 0 times before start → HasLines way script start lines end → after ≡ end.store
@@ -38,6 +38,7 @@ was_played way times before after script lines start end fits mounted play left 
   orderly = orderly_on way times before script lines after start end fits mounted play left;
   still = still_on way times before script lines after start end mounted play left;
   story = story_on way times before script lines after start end fits mounted play left;
+  machine = plainly_on way times before script lines after start end fits mounted play left;
 }
 
 -- the calls that a script's lines follow from

@@ -8,8 +8,8 @@ use Rattle.mount_model.specs.State.{State}
 use Rattle.mount_model.specs.Failing.{FailsToMount}
 use Rattle.mount_model.specs.Mounting.{IsMounted}
 use Rattle.store_api.specs.Names.{marks_folder}
-use Rattle.mount_model.specs.declared.trouble.MountTrouble.{MountTrouble}
-use Rattle.mount_model.specs.declared.trouble.MountTrouble.TheVariants as trouble
+use Rattle.mount_model.specs.declared.mount_trouble.MountTrouble.{MountTrouble}
+use Rattle.mount_model.specs.declared.mount_trouble.MountTrouble.TheVariants as trouble
 use Rattle.script_lang.specs.declared.line.Line.{Line}
 use Rattle.script_lang.specs.declared.line.Outcome.{Outcome}
 use Rattle.script_lang.specs.declared.line.Outcome.TheVariants as of
@@ -35,7 +35,7 @@ use Rattle.plfs_program.proofs.Streams.CatLemmas.{seen_so}
 use Rattle.plfs_program.proofs.Streams.CommandLemmas.{statements_fit}
 use Rattle.plfs_program.proofs.Courses.Lines.{play_cause}
 use Rattle.plfs_program.proofs.Streams.Pieces.{cat_shows}
-use Rattle.plfs_program.proofs.Courses.Plain.{counted_on, orderly_on, plain_on, still_on, story_on, undamaged_on}
+use Rattle.plfs_program.proofs.Courses.Plain.{counted_on, orderly_on, plain_on, plainly_on, still_on, story_on, undamaged_on}
 
 -- ---- its script is played
 
@@ -75,6 +75,7 @@ read_out name count lines e start end after is made left play =
           orderly = orderly_on by_turns e.times e.stored (cat_script name count) lines after start end fits made play left;
           still = still_on by_turns e.times e.stored (cat_script name count) lines after start end made play left;
           story = story_on by_turns e.times e.stored (cat_script name count) lines after start end fits made play left;
+          machine = plainly_on by_turns e.times e.stored (cat_script name count) lines after start end fits made play left;
         });
         cause = play_cause {E = Unit {0}} e.times e.stored after start end (Ok lines) made left (play_caused (cat_script name count) start lines end (cat_playable name count) play);
         undamaged = undamaged_on by_turns e.times e.stored (cat_script name count) lines start end fits made play;

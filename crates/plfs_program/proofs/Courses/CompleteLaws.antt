@@ -8,7 +8,7 @@ use Rattle.mount_model.specs.Paths.{Name}
 use Rattle.pack_files.specs.declared.scan.ScanStuck.{ScanStuck}
 use Rattle.pack_input.specs.Input.{Fault as InputFault, HasFault as HasInputFault}
 use Rattle.pack_input.specs.declared.files.NamedFile.{NamedFile}
-use Rattle.pack_puts.specs.declared.packing.Packed.TheVariants.{All, Full}
+use Rattle.lone_flow.specs.declared.packing.Packed.TheVariants.{All, Full}
 use Rattle.script_lang.specs.Faults.{Fault, HasFault}
 use Rattle.script_lang.specs.declared.line.Line.{Line}
 use Rattle.script_lang.specs.declared.line.Outcome.{Outcome}
@@ -22,7 +22,8 @@ use Rattle.plfs_program.specs.Complete.{IsAsked, HadNoTrouble}
 use Rattle.program_ends.specs.Outcomes.{IsDone, has_line, is_damage, is_fault, is_refusal, status_of}
 use Rattle.plfs_program.specs.Course.{Course, InputCourse, faulty, played, starved as unplayed, usage, unread, read, planned, cats, migrates, packs_unread, packs, unpacks, names_all, hungry}
 use Rattle.program_ends.specs.Ends.{Ends}
-use Rattle.plfs_program.specs.Migrating.{MigrateCourse, Said, is_broken_by, said_status, said_text, printed as told_whole, cut_off as told_part, exhausted as untold}
+use Rattle.plfs_program.specs.Migrating.{MigrateCourse, Said, said_status, said_text, printed as told_whole, cut_off as told_part, exhausted as untold}
+use Rattle.program_ends.specs.Outcomes.{is_broken_by}
 use Rattle.program_ends.specs.Reported.{line_zero}
 use Rattle.program_ends.specs.Output.{IsCutOff}
 use Rattle.plfs_program.specs.Packing.{PackCourse, PackEnd, PackInputCourse, packed_status, packed_text, printed as told_of_packing, cut_off as told_in_part, exhausted as broken_packing, faulty as faulty_input, packed as packed_input, starved as unpacked}

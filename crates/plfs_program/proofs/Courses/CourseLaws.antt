@@ -15,7 +15,7 @@ use Rattle.mount_model.specs.Paths.{Name}
 use Rattle.mount_model.specs.State.{State}
 use Rattle.pack_files.specs.declared.scan.ScanStuck.{ScanStuck}
 use Rattle.pack_input.specs.declared.files.NamedFile.{NamedFile}
-use Rattle.pack_puts.specs.declared.packing.Packed.TheVariants.{All, Full}
+use Rattle.lone_flow.specs.declared.packing.Packed.TheVariants.{All, Full}
 use Rattle.run_core.specs.Leading.{GoesOn}
 use Rattle.program_ends.specs.Leaving.{Leaves, broke_off, ran, IsStoreLeft}
 use Rattle.plfs_program.specs.Cat.{cat_script, unopened, unsaid, whole, stuck, broken, starved, hungry as wants}
@@ -24,7 +24,8 @@ use Rattle.plfs_program.specs.Commands.{IsBuiltCommand, IsServed}
 use Rattle.plfs_program.specs.Course.{Course, InputCourse, faulty, played, starved as unplayed, usage, unread, read, planned, cats, migrates, packs_unread, packs, unpacks, names_all, hungry}
 use Rattle.program_ends.specs.Ends.{Ends, IsUntouched}
 use Rattle.plfs_program.specs.Lines.{AreLinesOf, unmounted, mounted}
-use Rattle.plfs_program.specs.Migrating.{HasBegunIt, IsMigratedAs, IsSaidOf, MigrateCourse, Said, is_broken_by, said_status, printed as said, cut_off as unsaid_whole, exhausted as starved_so, unmounted as not_mounted, mounted as on_mount}
+use Rattle.plfs_program.specs.Migrating.{HasBegunIt, IsMigratedAs, IsSaidOf, MigrateCourse, Said, said_status, printed as said, cut_off as unsaid_whole, exhausted as starved_so, unmounted as not_mounted, mounted as on_mount}
+use Rattle.program_ends.specs.Outcomes.{is_broken_by}
 use Rattle.program_ends.specs.Reported.{line_zero}
 use Rattle.program_ends.specs.Outcomes.{has_line, is_damage, is_fault, is_refusal, status_of}
 use Rattle.plfs_program.specs.Packing.{HasBegunToPack, IsEndOf, IsPackedAs, PackCourse, PackEnd, PackInputCourse, packed_status, printed as told_of_packing, cut_off as told_in_part, exhausted as broken_packing, faulty as faulty_input, packed as packed_input, starved as unpacked, unmounted as no_packing, mounted as packing}

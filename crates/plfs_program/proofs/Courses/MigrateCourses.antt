@@ -3,13 +3,13 @@ use Rattle.std.proofs.Common.{◌≡◌, ℕ, ◌⊎◌, inl, inr, Bool, true, f
 use Rattle.std.proofs.lemmas.List.Elements.{All-nil, All-cons}
 use Rattle.plfs_types.specs.Counts.{HasRisen}
 use Rattle.store_api.specs.Acts.{Stored}
-use Rattle.flow.specs.declared.stuck.Stuck.{Stuck}
-use Rattle.flow.specs.declared.stuck.Stuck.TheVariants as stuck
+use Rattle.mount_model.specs.declared.stuck.Stuck.{Stuck}
+use Rattle.mount_model.specs.declared.stuck.Stuck.TheVariants as stuck
 use Rattle.mount_model.specs.State.{State}
 use Rattle.mount_model.specs.Failing.{FailsToMount}
 use Rattle.mount_model.specs.Mounting.{IsMounted}
-use Rattle.mount_model.specs.declared.trouble.MountTrouble.{MountTrouble}
-use Rattle.mount_model.specs.declared.trouble.MountTrouble.TheVariants as trouble
+use Rattle.mount_model.specs.declared.mount_trouble.MountTrouble.{MountTrouble}
+use Rattle.mount_model.specs.declared.mount_trouble.MountTrouble.TheVariants as trouble
 use Rattle.migrate_core.specs.declared.migrated.Migrated.{Migrated}
 use Rattle.trouble_laws.specs.Undamaged.{IsUndamaged}
 use Rattle.lone_flow.specs.Faults.{IsFault}
@@ -19,7 +19,8 @@ use Rattle.script_lang.specs.declared.line.Outcome.{Outcome}
 use Rattle.report_text.specs.Text.{HaveText, ListsLogicalNames, text_of}
 use Rattle.program_ends.specs.Leaving.{ran, broke_off, IsStoreLeft}
 use Rattle.program_ends.specs.Ends.{Ends}
-use Rattle.plfs_program.specs.Migrating.{HasBegunIt, IsMigratedAs, IsMigration, MigrateCourse, MigratesOn, Said, cut_off, ended_so, exhausted, is_broken_by, mounted, printed, said_of, said_status, said_text, starved, unmounted}
+use Rattle.plfs_program.specs.Migrating.{HasBegunIt, IsMigratedAs, IsMigration, MigrateCourse, MigratesOn, Said, cut_off, ended_so, exhausted, mounted, printed, said_of, said_status, said_text, starved, unmounted}
+use Rattle.program_ends.specs.Outcomes.{is_broken_by}
 use Rattle.program_ends.specs.Reported.{IsReported, line_zero}
 use Rattle.program_ends.specs.Mounting.{unmounted_of}
 use Rattle.program_ends.specs.Outcomes.{is_damage, is_fault, status_of}

@@ -5,12 +5,12 @@ use Rattle.store_api.specs.Acts.{Stored}
 use Rattle.mount_model.specs.State.{State}
 use Rattle.mount_model.specs.Failing.{FailsToMount}
 use Rattle.mount_model.specs.Mounting.{IsMounted}
-use Rattle.mount_model.specs.declared.trouble.MountTrouble.{MountTrouble}
-use Rattle.mount_model.specs.declared.trouble.MountTrouble.TheVariants as trouble
+use Rattle.mount_model.specs.declared.mount_trouble.MountTrouble.{MountTrouble}
+use Rattle.mount_model.specs.declared.mount_trouble.MountTrouble.TheVariants as trouble
 use Rattle.pack_files.specs.declared.scan.ScanStuck.{ScanStuck}
 use Rattle.pack_input.specs.declared.files.NamedFile.{NamedFile}
-use Rattle.pack_puts.specs.Packing.{Packs}
-use Rattle.pack_puts.specs.declared.packing.Packed.{Packed}
+use Rattle.lone_flow.specs.Packing.{Packs}
+use Rattle.lone_flow.specs.declared.packing.Packed.{Packed}
 use Rattle.script_lang.specs.declared.line.Line.{Line}
 use Rattle.script_lang.specs.declared.line.Outcome.{Outcome}
 use Rattle.report_text.specs.Text.{text_of}

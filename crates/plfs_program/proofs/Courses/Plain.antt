@@ -1,6 +1,7 @@
 -- What the lines of a play over a sound tree show.
 use Rattle.std.proofs.Common.{ℕ, ◌≡◌, false, List, Option, Some, refl, sym, ap, ◌∙◌, subst}
 use Rattle.std.proofs.lemmas.List.Folds.{list_any_none}
+use Rattle.plfs_types.specs.Counts.{HasRisen}
 use Rattle.store_api.specs.Acts.{Stored}
 use Rattle.store_api.specs.declared.tree.Tree.{Tree}
 use Rattle.mount_model.specs.History.{Event}
@@ -14,9 +15,11 @@ use Rattle.script_lang.specs.declared.line.Outcome.{Outcome}
 use Rattle.script_lang.specs.declared.line.Outcome.TheVariants as of
 use Rattle.script_lang.specs.declared.script.Script.{Script}
 use Rattle.run_core.specs.Leading.{Leads}
-use Rattle.play_laws.specs.Undamaged.{AreUndamaged, IsUndamaged}
-use Rattle.play_laws.specs.Counting.{CountWrites}
-use Rattle.play_laws.proofs.Facts.{play_counts, play_shows, play_undamaged, readers_show, right_counts, right_undamaged}
+use Rattle.plain_plays.specs.OverStores.{TellsPlainly}
+use Rattle.plain_plays.proofs.Facts.{no_fault, plays_over}
+use Rattle.headline_laws.specs.Undamaged.{AreUndamaged, IsUndamaged}
+use Rattle.headline_laws.specs.Counting.{CountWrites}
+use Rattle.headline_laws.proofs.Plays.Facts.{play_counts, play_shows, play_undamaged, readers_show, right_counts, right_undamaged}
 use Rattle.program_ends.specs.Outcomes.{has_line, is_damage}
 use Rattle.headline_laws.proofs.Facts.{has_story, orderly, play_has_story, play_orderly, still}
 use Rattle.plfs_program.specs.Seen.{TellsOrderly, TellsStill, TellsStory, seen_run}
@@ -76,6 +79,15 @@ story_on by_turns times before script lines after start end fits made play left 
     play_has_story (seen_run times before script lines after tree later) times before start end fits made is_before (sound_tree before tree told is_before) play (ap (λ (s : Stored). s.tree) (sym left) ∙ is_after) refl
 story_on on_threads times before script lines after start end fits made right left told tree later is_before is_after =
     has_story (seen_run times before script lines after tree later) times before start end fits made is_before (sound_tree before tree told is_before) right (ap (λ (s : Stored). s.tree) (sym left) ∙ is_after) refl
+
+-- ---- a plain machine says the lines
+
+pub plainly_on : (way : Way) (times : Option (List ℕ)) (before : Stored) (script : Script) (lines : List Line) (after : Stored) (start end : State) → FitsScript script → IsMounted 0 times before start → HasLines way script start lines end → after ≡ end.store
+    → way ≡ by_turns → (HasRisen before.faults after.faults → ⊥) → TellsPlainly script times before lines after
+plainly_on by_turns times before script lines after start end fits made play left turns none =
+    let well = no_fault script before start end lines (mounting_keeps times before start made) play (subst (λ (s : Stored). HasRisen before.faults s.faults → ⊥) left none) in
+    subst (λ s. TellsPlainly script times before lines s) (sym left) (plays_over script times before start end lines fits made play well)
+plainly_on on_threads times before script lines after start end fits made right left turns none = absurd (cc)
 
 -- ---- no line is damaged
 

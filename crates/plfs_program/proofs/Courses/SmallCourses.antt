@@ -6,16 +6,16 @@ use Rattle.mount_model.specs.State.{State}
 use Rattle.mount_model.specs.Paths.{Name}
 use Rattle.mount_model.specs.Failing.{FailsToMount}
 use Rattle.mount_model.specs.Mounting.{IsMounted}
-use Rattle.mount_model.specs.declared.trouble.MountTrouble.{MountTrouble}
-use Rattle.mount_model.specs.declared.trouble.MountTrouble.TheVariants as trouble
+use Rattle.mount_model.specs.declared.mount_trouble.MountTrouble.{MountTrouble}
+use Rattle.mount_model.specs.declared.mount_trouble.MountTrouble.TheVariants as trouble
 use Rattle.mount_sound.proofs.Facts.{mounted_sound}
-use Rattle.gathering.specs.Moments.{Moment, IsSoundAt}
+use Rattle.reader_laws.specs.Moments.{Moment, IsSoundAt}
 use Rattle.pack_files.specs.declared.scan.ScanStuck.{ScanStuck}
-use Rattle.pack_core.specs.Looking.{HasLooked}
-use Rattle.pack_core.specs.Naming.{BeginsToName, Names}
-use Rattle.pack_core.specs.Unpacking.{BeginsToUnpack, Unpacks}
-use Rattle.unpack_laws.specs.Seen.{Sees}
-use Rattle.unpack_laws.specs.Told.{AreNames, IsContent}
+use Rattle.lone_flow.specs.Looking.{HasLooked}
+use Rattle.lone_flow.specs.Naming.{BeginsToName, Names}
+use Rattle.lone_flow.specs.Unpacking.{BeginsToUnpack, Unpacks}
+use Rattle.packing_laws.specs.Seen.{Sees}
+use Rattle.packing_laws.specs.Told.{AreNames, IsContent}
 use Rattle.script_lang.specs.declared.line.Line.{Line}
 use Rattle.script_lang.specs.declared.line.Outcome.{Outcome}
 use Rattle.report_text.specs.Text.{text_of}

@@ -11,17 +11,17 @@ use Rattle.store_api.specs.Names.{marks_name}
 use Rattle.mount_model.specs.State.{State}
 use Rattle.mount_sound.specs.Sound.{IsSoundTree}
 use Rattle.mount_sound.proofs.Facts.{mounted_sound}
-use Rattle.gathering.specs.Moments.{IsSoundAt, Moment}
-use Rattle.flow.specs.declared.stuck.Stuck.TheVariants as stuck
+use Rattle.reader_laws.specs.Moments.{IsSoundAt, Moment}
+use Rattle.mount_model.specs.declared.stuck.Stuck.TheVariants as stuck
 use Rattle.pack_files.specs.declared.scan.ScanStuck.{ScanStuck}
 use Rattle.pack_files.specs.declared.scan.ScanStuck.TheVariants.{Bad, Stuck}
-use Rattle.pack_puts.specs.declared.packing.Packed.{Packed}
+use Rattle.lone_flow.specs.declared.packing.Packed.{Packed}
 use Rattle.packing_laws.specs.HasOnly.{IsOfUnits, TreeIsOfUnits}
 use Rattle.packing_laws.specs.OnlyUnits.{Filing}
 use Rattle.packing_laws.specs.Troubles.{TellsFault, TellsNoDamage}
 use Rattle.script_lang.specs.declared.line.Outcome.{Outcome}
 use Rattle.program_ends.specs.Ends.{Ends}
-use Rattle.plfs_program.specs.Migrating.{is_broken_by}
+use Rattle.program_ends.specs.Outcomes.{is_broken_by}
 use Rattle.program_ends.specs.Outcomes.{is_damage, is_fault}
 use Rattle.plfs_program.specs.Packing.{end_of}
 use Rattle.plfs_program.specs.SmallFiles.{outcome_of, told_of_file, told_of_names}

@@ -6,7 +6,7 @@ use Rattle.script_lang.specs.declared.script.Script.{Script}
 use Rattle.script_lang.specs.Ranges.{FitsScript}
 use Rattle.mount_model.specs.State.{State}
 use Rattle.mount_model.specs.Mounting.{IsMounted}
-use Rattle.mount_model.specs.declared.trouble.MountTrouble.{MountTrouble}
+use Rattle.mount_model.specs.declared.mount_trouble.MountTrouble.{MountTrouble}
 use Rattle.mount_model.specs.Failing.{FailsToMount}
 use Rattle.program_ends.specs.Mounting.{IsUnmounted}
 use Rattle.plfs_program.specs.Lines.{AreLinesOf, unmounted, mounted}

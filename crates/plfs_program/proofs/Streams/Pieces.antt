@@ -10,22 +10,22 @@ use Rattle.plfs_types.specs.declared.entries.WriterCount.{WriterCount}
 use Rattle.mount_model.specs.History.{Event}
 use Rattle.mount_model.specs.State.{State}
 use Rattle.mount_sound.specs.Sound.{IsSoundFor}
-use Rattle.story.specs.Performers.{told_at}
+use Rattle.mount_model.specs.Performers.{told_at}
 use Rattle.script_lang.specs.declared.line.Line.{Line}
 use Rattle.script_lang.specs.declared.line.Outcome.{Outcome}
 use Rattle.script_lang.specs.declared.line.Outcome.TheVariants as of
 use Rattle.script_lang.specs.declared.script.Numbered.{Numbered}
 use Rattle.plain_file.specs.File.{slice}
-use Rattle.gathering.specs.Moments.{Moment}
+use Rattle.reader_laws.specs.Moments.{Moment}
 use Rattle.run_core.specs.Cast.{statements_in}
 use Rattle.run_core.specs.Course.{own}
 use Rattle.run_core.specs.Play.{IsPlay}
 use Rattle.run_core.specs.Written.{whose}
-use Rattle.play_laws.specs.OneFile.{OneFile, seen_bytes}
-use Rattle.play_laws.specs.Opening.{Stretch, OpensOneFile}
-use Rattle.play_laws.specs.Readers.{ShowsEach, PlayShows}
-use Rattle.play_laws.specs.OneWriter.{OneWriter}
-use Rattle.play_laws.specs.Showing.{ShowsOpening, ShowsRead}
+use Rattle.headline_laws.specs.OneFile.{OneFile, seen_bytes}
+use Rattle.headline_laws.specs.Opening.{Stretch, OpensOneFile}
+use Rattle.headline_laws.specs.Readers.{ShowsEach, PlayShows}
+use Rattle.headline_laws.specs.OneWriter.{OneWriter}
+use Rattle.headline_laws.specs.Showing.{ShowsOpening, ShowsRead}
 use Rattle.plfs_program.specs.Cat.{IsRead, is_read, content_of, contents, cat_script, cat_statements, piece_length, pieces_of, reader_size, reading}
 use Rattle.plfs_program.specs.Commands.{actor}
 use Rattle.plfs_program.specs.ReadOut.{ShowOneFile}

@@ -29,8 +29,8 @@ use Rattle.store_api.specs.Names.{marks_name}
 use Rattle.mount_model.specs.State.{State}
 use Rattle.mount_model.specs.Listed.{IsGreatest, IsMarkOf}
 use Rattle.mount_model.specs.Mounting.{marks_step, list_step, mark_step, room_told, IsMounted}
-use Rattle.mount_model.specs.declared.trouble.MountTrouble.{MountTrouble}
-use Rattle.mount_model.specs.declared.trouble.MountTrouble.TheVariants as trouble
+use Rattle.mount_model.specs.declared.mount_trouble.MountTrouble.{MountTrouble}
+use Rattle.mount_model.specs.declared.mount_trouble.MountTrouble.TheVariants as trouble
 use Rattle.mount_model.specs.Failing.{names_told, made_told, trouble_of, LeavesNone, FailsToMount, no_room, no_names, no_next, no_mark}
 use Rattle.program_ends.specs.Mounting.{listed_in, listed_or_none, listed_in_room, listed_marks, AreWhy, HaveNext, unmounted_of, IsUnmounted}
 use Rattle.script_lang.specs.declared.line.Outcome.TheVariants as of

@@ -14,15 +14,15 @@ use Rattle.mount_model.specs.Paths.{log_path}
 use Rattle.mount_model.specs.History.{Event}
 use Rattle.read_plan.specs.declared.part.Part.{Part}
 use Rattle.read_plan.specs.declared.part.Part.TheVariants.{Hole, From}
-use Rattle.story.specs.Calls.{AreCallsOf}
-use Rattle.flow.specs.Running.{asking}
-use Rattle.flow.specs.Replies.{bytes_in}
+use Rattle.mount_model.specs.Calls.{AreCallsOf}
+use Rattle.mount_model.specs.Running.{asking}
+use Rattle.mount_model.specs.FlowReplies.{bytes_in}
 use Rattle.plain_file.specs.declared.parts.WriterHost.{WriterHost as Listed}
 use Rattle.index_reader.specs.Hosts.{host_of}
 use Rattle.index_reader.specs.Reading.{placed_all, spells, read_program}
-use Rattle.gathering.specs.Seen.{Asked, asked_in}
-use Rattle.gathering.specs.Gathering.{Gathered}
-use Rattle.gathering.specs.View.{IsLogRead, IsAnswer}
+use Rattle.reader_laws.specs.Seen.{Asked, asked_in}
+use Rattle.reader_laws.specs.Gathering.{Gathered}
+use Rattle.reader_laws.specs.View.{IsLogRead, IsAnswer}
 use Rattle.reader_laws.proofs.Calls.Calling.{asked_all, given_so, passed_so, same_ok, bytes_given, FitsRead}
 
 -- the log of a part is that of one of the cut, whose host is the one that was listed

@@ -12,15 +12,15 @@ use Rattle.mount_model.specs.declared.reply.Reply.{Reply}
 use Rattle.mount_model.specs.declared.reply.Reply.TheVariants.{Looked}
 use Rattle.mount_model.specs.Paths.{Name}
 use Rattle.mount_model.specs.History.{Event}
-use Rattle.story.specs.Program.{done}
-use Rattle.story.specs.Calls.{AreCallsOf}
-use Rattle.flow.specs.declared.stuck.Stuck.{Stuck}
-use Rattle.flow.specs.Running.{asking}
-use Rattle.flow.specs.Replies.{Tries, given, names_in, bytes_in}
+use Rattle.mount_model.specs.Program.{done}
+use Rattle.mount_model.specs.Calls.{AreCallsOf}
+use Rattle.mount_model.specs.declared.stuck.Stuck.{Stuck}
+use Rattle.mount_model.specs.Running.{asking}
+use Rattle.mount_model.specs.FlowReplies.{Tries, given, names_in, bytes_in}
 use Rattle.index_reader.specs.Replies.{number_in}
-use Rattle.gathering.specs.Moments.{Moment}
-use Rattle.gathering.specs.Seen.{Asked, asked_in, calls_of, IsSeen}
-use Rattle.gathering.proofs.Facts.{answers_as, read_told}
+use Rattle.reader_laws.specs.Moments.{Moment}
+use Rattle.reader_laws.specs.Seen.{Asked, asked_in, calls_of, IsSeen}
+use Rattle.reader_laws.proofs.Gathered.Facts.{answers_as, read_told}
 
 -- ---- the calls of a caller
 

@@ -7,19 +7,19 @@ use Rattle.mount_model.specs.declared.call.Call.{Call}
 use Rattle.mount_model.specs.declared.reply.Reply.{Reply}
 use Rattle.mount_model.specs.History.{Event}
 use Rattle.mount_sound.specs.Owed.{IsLawful}
-use Rattle.story.specs.Program.{Program, ask}
-use Rattle.flow.specs.Running.{unbroken, Runs}
-use Rattle.flow.specs.Replies.{names_in}
-use Rattle.flow.proofs.Facts.{runs_next}
+use Rattle.mount_model.specs.Program.{Program, ask}
+use Rattle.mount_model.specs.Running.{unbroken, Runs}
+use Rattle.mount_model.specs.FlowReplies.{names_in}
+use Rattle.mount_model.proofs.Flows.Facts.{runs_next}
 use Rattle.turn_object.specs.Callers.{made_by}
 use Rattle.index_reader.specs.declared.opened.OpenReader.{OpenReader}
 use Rattle.index_reader.specs.Truncs.{trunc_program}
-use Rattle.gathering.specs.Moments.{Moment, IsSoundAt, moment_after}
-use Rattle.gathering.specs.Seen.{Asked, asked_in, calls_of}
-use Rattle.gathering.specs.Opening.{ListsTruncs}
-use Rattle.gathering.proofs.Facts.{its_call, legal_first, legal_rest, seen, sound_after}
+use Rattle.reader_laws.specs.Moments.{Moment, IsSoundAt, moment_after}
+use Rattle.reader_laws.specs.Seen.{Asked, asked_in, calls_of}
+use Rattle.reader_laws.specs.GatheringOpening.{ListsTruncs}
+use Rattle.reader_laws.proofs.Gathered.Facts.{its_call, legal_first, legal_rest, seen, sound_after}
 use Rattle.reader_laws.specs.Listing.{HasListedTruncs}
-use Rattle.story.proofs.Facts.{entries_not_first}
+use Rattle.mount_model.proofs.Stories.Facts.{entries_not_first}
 use Rattle.reader_laws.proofs.Calls.Calling.{asked_all, calls_append, calls_are, given_so, FitsRead, reads_fit}
 use Rattle.reader_laws.proofs.Calls.Truncating.{truncs_told}
 

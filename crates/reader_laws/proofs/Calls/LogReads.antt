@@ -1,6 +1,6 @@
 -- What reads from an open reader give.
 use Rattle.plfs_types.specs.Counts.{HasRisen}
-use Rattle.story.specs.Program.{done}
+use Rattle.mount_model.specs.Program.{done}
 use Rattle.std.proofs.Common.{◌≡◌, ℕ, ◌+◌, ◌≤◌, nat_eq, nat_lt, true, false, List, [], ◌∷◌, ◌++◌, length, take, drop, map, Some, refl, ap, sym, ◌∙◌, inl, inr, subst, arith}
 use Rattle.std.specs.Prelude.{Result, Ok, Err, if◌then◌else◌, replicate}
 use Rattle.std.specs.List.{AllByRecursion}
@@ -22,21 +22,21 @@ use Rattle.mount_model.specs.Step.{Answers}
 use Rattle.mount_model.specs.History.{Event, state_after}
 use Rattle.mount_sound.specs.Ledger.{content}
 use Rattle.mount_sound.specs.Owed.{IsLawful}
-use Rattle.flow.specs.declared.stuck.Stuck.{Stuck}
-use Rattle.flow.specs.declared.stuck.Stuck.TheVariants as stuck
-use Rattle.flow.specs.Running.{Runs}
-use Rattle.flow.specs.Replies.{given, bytes_in, damage, trouble}
+use Rattle.mount_model.specs.declared.stuck.Stuck.{Stuck}
+use Rattle.mount_model.specs.declared.stuck.Stuck.TheVariants as stuck
+use Rattle.mount_model.specs.Running.{Runs}
+use Rattle.mount_model.specs.FlowReplies.{given, bytes_in, damage, trouble}
 use Rattle.plain_file.specs.declared.parts.WriterHost.{WriterHost as Listed}
 use Rattle.index_reader.specs.declared.opened.OpenReader.{OpenReader}
 use Rattle.index_reader.specs.Found.{item_of}
 use Rattle.index_reader.specs.Hosts.{host_in, host_of}
 use Rattle.index_reader.specs.Reading.{placed_all, ends_at, spells, read_program}
-use Rattle.gathering.specs.Moments.{Moment, IsSoundAt, Dropping, Grows, issued_by, moment_after, next_moment}
-use Rattle.gathering.specs.Gathering.{Gathered}
-use Rattle.gathering.specs.Opening.{HasView}
-use Rattle.gathering.specs.Parts.{IsOfLog, IsPartOf}
-use Rattle.gathering.specs.View.{IsAnswer, view, WritersRise}
-use Rattle.gathering.proofs.Facts.{alike, any_found, follows, grows_after, grows_trans, is_among, legal_first, legal_rest, log_ends, one_gathered, plan_within, sound_after, view_answers}
+use Rattle.reader_laws.specs.Moments.{Moment, IsSoundAt, Dropping, Grows, issued_by, moment_after, next_moment}
+use Rattle.reader_laws.specs.Gathering.{Gathered}
+use Rattle.reader_laws.specs.GatheringOpening.{HasView}
+use Rattle.reader_laws.specs.Parts.{IsOfLog, IsPartOf}
+use Rattle.reader_laws.specs.View.{IsAnswer, view, WritersRise}
+use Rattle.reader_laws.proofs.Gathered.Facts.{alike, any_found, follows, grows_after, grows_trans, is_among, legal_first, legal_rest, log_ends, one_gathered, plan_within, sound_after, view_answers}
 use Rattle.reader_laws.specs.Failing.{FailsByStore}
 use Rattle.reader_laws.specs.Opened.{HasOpenReader}
 use Rattle.reader_laws.specs.Sharing.{host_in_room as in_room}

@@ -12,11 +12,11 @@ use Rattle.mount_model.specs.History.{Event, state_after}
 use Rattle.mount_model.proofs.Facts.{step_cases, step_causes}
 use Rattle.mount_sound.specs.Owed.{IsLawful}
 use Rattle.mount_sound.proofs.Facts.{lawful_first, lawful_rest}
-use Rattle.flow.specs.declared.stuck.Stuck.{Stuck}
-use Rattle.flow.specs.declared.stuck.Stuck.TheVariants as stuck
-use Rattle.flow.specs.Running.{unbroken}
+use Rattle.mount_model.specs.declared.stuck.Stuck.{Stuck}
+use Rattle.mount_model.specs.declared.stuck.Stuck.TheVariants as stuck
+use Rattle.mount_model.specs.Running.{unbroken}
 use Rattle.turn_object.proofs.Facts.{state_append}
-use Rattle.gathering.proofs.Facts.{any_found, found_any}
+use Rattle.reader_laws.proofs.Gathered.Facts.{any_found, found_any}
 use Rattle.reader_laws.specs.Failing.{FailsByStore}
 
 -- a call that isn't broken off is answered

@@ -22,17 +22,17 @@ use Rattle.mount_model.specs.Paths.{Name, truncs as truncs_folder}
 use Rattle.mount_model.specs.Step.{IsStep}
 use Rattle.mount_model.specs.History.{Event}
 use Rattle.mount_sound.specs.Items.{HasItem}
-use Rattle.flow.specs.declared.stuck.Stuck.{Stuck}
-use Rattle.flow.specs.Running.{unbroken}
-use Rattle.flow.specs.Replies.{damage, names_in}
-use Rattle.flow.specs.Names.{trunc_in}
+use Rattle.mount_model.specs.declared.stuck.Stuck.{Stuck}
+use Rattle.mount_model.specs.Running.{unbroken}
+use Rattle.mount_model.specs.FlowReplies.{damage, names_in}
+use Rattle.mount_model.specs.Names.{trunc_in}
 use Rattle.index_reader.specs.Truncs.{is_before, place_of, inserted, truncs_path, truncs_of, if_trunc}
-use Rattle.flow.proofs.Facts.{trunc_in-found, trunc_in-is}
-use Rattle.gathering.specs.Moments.{Moment, IsSoundAt}
-use Rattle.gathering.specs.Seen.{asked_in}
-use Rattle.gathering.specs.Listing.{IsTruncName, StampsRise, AreTruncsOf}
-use Rattle.gathering.specs.Opening.{ListsTruncs}
-use Rattle.gathering.proofs.Facts.{All-weaker, among_listed, answers_as, any_found, folder_listed, found_any, is_among, named_file}
+use Rattle.mount_model.proofs.Flows.Facts.{trunc_in-found, trunc_in-is}
+use Rattle.reader_laws.specs.Moments.{Moment, IsSoundAt}
+use Rattle.reader_laws.specs.Seen.{asked_in}
+use Rattle.reader_laws.specs.GatheringListing.{IsTruncName, StampsRise, AreTruncsOf}
+use Rattle.reader_laws.specs.GatheringOpening.{ListsTruncs}
+use Rattle.reader_laws.proofs.Gathered.Facts.{All-weaker, among_listed, answers_as, any_found, folder_listed, found_any, is_among, named_file}
 use Rattle.reader_laws.proofs.Calls.Calling.{names_given}
 
 -- ---- putting one in its place

@@ -10,15 +10,15 @@ use Rattle.mount_model.specs.declared.call.Ask.{Ask}
 use Rattle.mount_model.specs.declared.row.Making.{Making}
 use Rattle.mount_model.specs.Paths.{installed_item, installed_of}
 use Rattle.mount_model.specs.History.{Event}
-use Rattle.story.specs.Program.{done}
-use Rattle.story.specs.Calls.{AreCallsOf}
-use Rattle.flow.specs.Running.{asking}
-use Rattle.flow.specs.Replies.{bytes_in}
+use Rattle.mount_model.specs.Program.{done}
+use Rattle.mount_model.specs.Calls.{AreCallsOf}
+use Rattle.mount_model.specs.Running.{asking}
+use Rattle.mount_model.specs.FlowReplies.{bytes_in}
 use Rattle.index_reader.specs.FileReads.{next_part, parts_of, parts}
-use Rattle.gathering.specs.Moments.{Moment, file_then}
-use Rattle.gathering.specs.Seen.{IsSeen}
-use Rattle.gathering.specs.Files.{AreFileReads}
-use Rattle.gathering.proofs.Facts.{answers_as, read_told}
+use Rattle.reader_laws.specs.Moments.{Moment, file_then}
+use Rattle.reader_laws.specs.Seen.{IsSeen}
+use Rattle.reader_laws.specs.Files.{AreFileReads}
+use Rattle.reader_laws.proofs.Gathered.Facts.{answers_as, read_told}
 use Rattle.reader_laws.proofs.Calls.Calling.{asked_all, given_so, same_ok, bytes_given}
 
 next_fits : (left : ℕ) → next_part left ≤ left

@@ -15,18 +15,18 @@ use Rattle.mount_model.specs.declared.call.Look.TheVariants.{Read}
 use Rattle.mount_model.specs.declared.row.Making.TheVariants as making
 use Rattle.mount_model.specs.Paths.{flat_path}
 use Rattle.mount_model.specs.History.{Event}
-use Rattle.story.specs.Program.{done, followed_by}
-use Rattle.story.specs.Calls.{AreCallsOf}
-use Rattle.flow.specs.declared.stuck.Stuck.{Stuck}
-use Rattle.flow.specs.Running.{asking, unbroken}
-use Rattle.flow.specs.Replies.{Tries, bytes_in, damage, given, on_ok, trouble}
+use Rattle.mount_model.specs.Program.{done, followed_by}
+use Rattle.mount_model.specs.Calls.{AreCallsOf}
+use Rattle.mount_model.specs.declared.stuck.Stuck.{Stuck}
+use Rattle.mount_model.specs.Running.{asking, unbroken}
+use Rattle.mount_model.specs.FlowReplies.{Tries, bytes_in, damage, given, on_ok, trouble}
 use Rattle.index_reader.specs.FileReads.{bytes_left, first_rest, next_part}
 use Rattle.index_reader.specs.FlatRules.{flat_fault, flat_told}
 use Rattle.index_reader.specs.Opening.{flat_bytes, flat_first, flat_or_damage, flat_rest, if_begun, unless_unfit}
 use Rattle.index_reader.proofs.Facts.{bytes_going_on, flat_fault-none}
-use Rattle.gathering.specs.Moments.{Moment, file_then}
-use Rattle.gathering.specs.Seen.{IsSeen}
-use Rattle.gathering.proofs.Facts.{answers_as, read_told}
+use Rattle.reader_laws.specs.Moments.{Moment, file_then}
+use Rattle.reader_laws.specs.Seen.{IsSeen}
+use Rattle.reader_laws.proofs.Gathered.Facts.{answers_as, read_told}
 use Rattle.reader_laws.proofs.Calls.Calling.{asked_all, bytes_given}
 
 -- all its bytes are read, and then judged

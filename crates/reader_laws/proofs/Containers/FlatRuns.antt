@@ -20,12 +20,12 @@ use Rattle.mount_model.specs.Paths.{Name, flat_path}
 use Rattle.mount_model.specs.History.{Event}
 use Rattle.mount_sound.specs.Flats.{IsRightFlat}
 use Rattle.turn_object.specs.Callers.{made_by}
-use Rattle.story.specs.Program.{done}
-use Rattle.story.specs.Calls.{AreCallsOf}
-use Rattle.flow.specs.declared.stuck.Stuck.{Stuck}
-use Rattle.flow.specs.Running.{asking, Runs}
-use Rattle.flow.specs.Replies.{Tries, on_ok}
-use Rattle.flow.proofs.Facts.{runs_in_two}
+use Rattle.mount_model.specs.Program.{done}
+use Rattle.mount_model.specs.Calls.{AreCallsOf}
+use Rattle.mount_model.specs.declared.stuck.Stuck.{Stuck}
+use Rattle.mount_model.specs.Running.{asking, Runs}
+use Rattle.mount_model.specs.FlowReplies.{Tries, on_ok}
+use Rattle.mount_model.proofs.Flows.Facts.{runs_in_two}
 use Rattle.index_reader.specs.Replies.{number_in}
 use Rattle.index_reader.specs.FileReads.{parts_of, bytes_left}
 use Rattle.index_reader.specs.FlatRules.{flat_told}
@@ -33,11 +33,11 @@ use Rattle.index_reader.specs.Items.{flat_item}
 use Rattle.index_reader.specs.Newest.{flats_path, greater_id, if_flat, newest_in}
 use Rattle.index_reader.specs.Opening.{flat_or_damage, flat_program}
 use Rattle.index_reader.proofs.Facts.{flat_item-at, flat_item-here, flat_told-valid}
-use Rattle.gathering.specs.Moments.{Moment, IsSoundAt, file_then}
-use Rattle.gathering.specs.Seen.{asked_in, calls_of, IsSeen, IsSeenCall}
-use Rattle.gathering.specs.Files.{AreFileReads, ReadsFile}
-use Rattle.gathering.specs.Flats.{IsFlatName, IsNewest}
-use Rattle.gathering.proofs.Facts.{answers_as, any_found, few_covers, found_any, in_a_room, in_tree, its_writers, length_told}
+use Rattle.reader_laws.specs.Moments.{Moment, IsSoundAt, file_then}
+use Rattle.reader_laws.specs.Seen.{asked_in, calls_of, IsSeen, IsSeenCall}
+use Rattle.reader_laws.specs.Files.{AreFileReads, ReadsFile}
+use Rattle.reader_laws.specs.Flats.{IsFlatName, IsNewest}
+use Rattle.reader_laws.proofs.Gathered.Facts.{answers_as, any_found, few_covers, found_any, in_a_room, in_tree, its_writers, length_told}
 use Rattle.reader_laws.proofs.Containers.FileRuns.{parts_run}
 use Rattle.reader_laws.proofs.Containers.FlatBytes.{plain_ends}
 use Rattle.reader_laws.proofs.Calls.Histories.{first_of, calls_from}

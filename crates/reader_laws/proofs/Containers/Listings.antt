@@ -13,11 +13,11 @@ use Rattle.mount_model.specs.Paths.{Name, flats, metadata, truncs}
 use Rattle.mount_model.specs.History.{Event}
 use Rattle.mount_sound.specs.Owed.{IsLawful}
 use Rattle.turn_object.specs.Callers.{made_by}
-use Rattle.flow.specs.declared.stuck.Stuck.{Stuck}
-use Rattle.flow.specs.Running.{Runs}
-use Rattle.flow.specs.Replies.{Tries, damage, on_ok, names_in, room_in}
-use Rattle.flow.specs.Listed.{file_in}
-use Rattle.flow.proofs.Facts.{runs_in_two}
+use Rattle.mount_model.specs.declared.stuck.Stuck.{Stuck}
+use Rattle.mount_model.specs.Running.{Runs}
+use Rattle.mount_model.specs.FlowReplies.{Tries, damage, on_ok, names_in, room_in}
+use Rattle.mount_model.specs.FlowListed.{file_in}
+use Rattle.mount_model.proofs.Flows.Facts.{runs_in_two}
 use Rattle.index_reader.specs.declared.listing.Dropping.{Dropping as Listed}
 use Rattle.index_reader.specs.declared.listing.Listing.{Listing}
 use Rattle.index_reader.specs.declared.scanning.Scan.{Scan}
@@ -29,13 +29,13 @@ use Rattle.index_reader.specs.Searching.{same_bytes, has_name}
 use Rattle.index_reader.specs.Tops.{access, foreign_at_top, required, shown, top_shows}
 use Rattle.container_layout.specs.Paths.{hostdirs}
 use Rattle.index_reader.proofs.Facts.{same_bytes-itself, same_bytes-eq}
-use Rattle.gathering.specs.Moments.{Moment, IsSoundAt, Dropping, IsNamed, moment_after, next_moment}
-use Rattle.gathering.specs.Seen.{Asked, asked_in, calls_of}
-use Rattle.gathering.specs.Flats.{IsFlatName, ReadsFlat, covers_of, pieces_of}
+use Rattle.reader_laws.specs.Moments.{Moment, IsSoundAt, Dropping, IsNamed, moment_after, next_moment}
+use Rattle.reader_laws.specs.Seen.{Asked, asked_in, calls_of}
+use Rattle.reader_laws.specs.Flats.{IsFlatName, ReadsFlat, covers_of, pieces_of}
 use Rattle.mount_model.specs.declared.call.Look.TheVariants.{List as ListFolder}
-use Rattle.gathering.specs.Listing.{IsListed, ListsHostdirs, IsScan}
+use Rattle.reader_laws.specs.GatheringListing.{IsListed, ListsHostdirs, IsScan}
 use Rattle.plfs_types.specs.Places.{IsAmong}
-use Rattle.gathering.proofs.Facts.{All-append, among, any_found, found_any, is_among, legal_first, legal_rest, seen, sound_after}
+use Rattle.reader_laws.proofs.Gathered.Facts.{All-append, among, any_found, found_any, is_among, legal_first, legal_rest, seen, sound_after}
 use Rattle.reader_laws.specs.Listing.{AreListed, HasListed, IsPackedAs}
 use Rattle.reader_laws.specs.Opening.{Lists}
 use Rattle.reader_laws.specs.Sharing.{in_room}

@@ -11,7 +11,7 @@ use Rattle.container_layout.specs.declared.items.Item.TheVariants as item
 use Rattle.container_layout.specs.Items.{IsItem}
 use Rattle.container_layout.specs.Paths.{hostdir_of, path_of}
 use Rattle.store_api.specs.declared.step.Answer.TheVariants.{Names}
-use Rattle.flow.specs.Listed.{file_in}
+use Rattle.mount_model.specs.FlowListed.{file_in}
 use Rattle.mount_model.specs.declared.call.Call.TheVariants.{Look}
 use Rattle.mount_model.specs.declared.call.Look.TheVariants.{List as ListFolder, Top}
 use Rattle.mount_model.specs.declared.reply.Reply.TheVariants.{Looked}
@@ -19,11 +19,11 @@ use Rattle.mount_model.specs.Paths.{Name}
 use Rattle.index_reader.specs.declared.scanning.Scan.{Scan}
 use Rattle.index_reader.specs.Opening.{is_of_host, has_owner, lone_pack, dropping_of}
 use Rattle.index_reader.specs.Scanning.{owner, owner_of, has_writer, nothing_found}
-use Rattle.gathering.specs.Moments.{Dropping, IsNamed}
-use Rattle.gathering.specs.Seen.{Asked}
-use Rattle.gathering.specs.Listing.{IsListed, NamesPack}
+use Rattle.reader_laws.specs.Moments.{Dropping, IsNamed}
+use Rattle.reader_laws.specs.Seen.{Asked}
+use Rattle.reader_laws.specs.GatheringListing.{IsListed, NamesPack}
 use Rattle.plfs_types.specs.Places.{IsAmong}
-use Rattle.gathering.proofs.Facts.{alike, among, any_found, found_any, is_among}
+use Rattle.reader_laws.proofs.Gathered.Facts.{alike, among, any_found, found_any, is_among}
 use Rattle.reader_laws.specs.Listing.{IsPackedAs}
 use Rattle.reader_laws.proofs.OpenReaders.Cuts.{all_by, map_among}
 use Rattle.reader_laws.proofs.Containers.Scanning.{Owner, dropping, Rise, GoesOnWith, PacksGoOn, NameOwner}

@@ -1,5 +1,5 @@
 -- Who runs the program that scans a container has scanned it.
-use Rattle.gathering.proofs.Facts.{All-append, All-weaker, among_left, among_right}
+use Rattle.reader_laws.proofs.Gathered.Facts.{All-append, All-weaker, among_left, among_right}
 use Rattle.std.proofs.Common.{◌≡◌, ℕ, ◌≤◌, ◌<◌, ◌%◌, nat_lt, nat_eq, true, false, List, [], ◌∷◌, ◌++◌, drop, Option, Some, None, refl, ap, sym, ◌∙◌, ◌⊎◌, inl, inr, subst, arith}
 use Rattle.std.specs.Prelude.{Result, Ok, Err, if◌then◌else◌, is_some}
 use Rattle.std.specs.Fmt.{decimal}
@@ -14,15 +14,15 @@ use Rattle.container_layout.specs.declared.items.Item.TheVariants as item
 use Rattle.container_layout.specs.Paths.{IsAt, hostdir_of}
 use Rattle.container_layout.proofs.Facts.{one_item}
 use Rattle.mount_model.specs.Paths.{Name}
-use Rattle.flow.specs.declared.stuck.Stuck.{Stuck}
-use Rattle.flow.specs.Replies.{damage}
-use Rattle.flow.specs.Listed.{file_in}
+use Rattle.mount_model.specs.declared.stuck.Stuck.{Stuck}
+use Rattle.mount_model.specs.FlowReplies.{damage}
+use Rattle.mount_model.specs.FlowListed.{file_in}
 use Rattle.index_reader.specs.declared.scanning.Scan.{Scan}
 use Rattle.index_reader.specs.Items.{hostdir_item}
 use Rattle.index_reader.specs.Scanning.{nothing_found, owner, has_writer, placed, taken, taken_all, foreign_in, unless_foreign, scanned, owner_of}
 use Rattle.index_reader.proofs.Facts.{hostdir_item-at, hostdir_item-here}
-use Rattle.gathering.specs.Moments.{Dropping, IsNamed}
-use Rattle.gathering.specs.Listing.{AreDroppingsOf}
+use Rattle.reader_laws.specs.Moments.{Dropping, IsNamed}
+use Rattle.reader_laws.specs.GatheringListing.{AreDroppingsOf}
 use Rattle.reader_laws.proofs.Calls.Calling.{same_ok}
 
 -- what a scan's lists are of

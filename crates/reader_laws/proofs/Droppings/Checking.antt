@@ -13,10 +13,10 @@ use Rattle.std.specs.Int.{w64, from_le_bytes}
 use Rattle.index_entry.specs.Within.{within_log}
 use Rattle.interval_merge.specs.Writer.{HasPiece}
 use Rattle.mount_sound.proofs.Facts.{logged_append}
-use Rattle.flow.specs.Entries.{is_next}
+use Rattle.mount_model.specs.Entries.{is_next}
 use Rattle.index_reader.specs.declared.entries.Tail.{Tail}
 use Rattle.index_reader.specs.Entries.{longer}
-use Rattle.gathering.proofs.Facts.{All-append, front_slice}
+use Rattle.reader_laws.proofs.Gathered.Facts.{All-append, front_slice}
 use Rattle.reader_laws.specs.Covering.{cover_with}
 
 -- ---- a tail with more entries

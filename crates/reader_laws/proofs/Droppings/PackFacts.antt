@@ -20,9 +20,9 @@ use Rattle.mount_sound.specs.Flats.{IsRightPack}
 use Rattle.mount_sound.proofs.Facts.{logged_append, order_drop}
 use Rattle.index_reader.specs.PackRules.{has_head, has_count, has_length}
 use Rattle.index_reader.specs.Packs.{no_tail, head_fault, tail_past}
-use Rattle.gathering.specs.Moments.{Moment, IsSoundAt, Dropping, IsNamed, file_then, landed_by}
-use Rattle.gathering.specs.Packs.{TellsCount, pack_of}
-use Rattle.gathering.proofs.Facts.{in_a_room, in_tree, landed_at}
+use Rattle.reader_laws.specs.Moments.{Moment, IsSoundAt, Dropping, IsNamed, file_then, landed_by}
+use Rattle.reader_laws.specs.Packs.{TellsCount, pack_of}
+use Rattle.reader_laws.proofs.Gathered.Facts.{in_a_room, in_tree, landed_at}
 use Rattle.reader_laws.proofs.Droppings.Checking.{Longer, last_stamp-append}
 
 -- ---- what stands

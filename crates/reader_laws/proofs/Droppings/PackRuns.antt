@@ -16,12 +16,12 @@ use Rattle.index_pack.specs.Spelling.{Packs}
 use Rattle.mount_model.specs.declared.call.Ask.{Ask}
 use Rattle.mount_model.specs.declared.row.Making.TheVariants as making
 use Rattle.mount_model.specs.History.{Event}
-use Rattle.story.specs.Program.{done}
+use Rattle.mount_model.specs.Program.{done}
 use Rattle.turn_object.specs.Callers.{made_by}
-use Rattle.flow.specs.declared.stuck.Stuck.{Stuck}
-use Rattle.flow.specs.Running.{Runs}
-use Rattle.flow.specs.Replies.{Tries, on_ok, damage, bytes_in}
-use Rattle.flow.proofs.Facts.{runs_in_two}
+use Rattle.mount_model.specs.declared.stuck.Stuck.{Stuck}
+use Rattle.mount_model.specs.Running.{Runs}
+use Rattle.mount_model.specs.FlowReplies.{Tries, on_ok, damage, bytes_in}
+use Rattle.mount_model.proofs.Flows.Facts.{runs_in_two}
 use Rattle.index_reader.specs.declared.listing.Dropping.{Dropping as Listed}
 use Rattle.index_reader.specs.declared.entries.Tail.{Tail}
 use Rattle.index_reader.specs.FileReads.{parts_of, bytes_left}
@@ -29,11 +29,11 @@ use Rattle.index_reader.specs.PackRules.{pack_told}
 use Rattle.index_reader.specs.Packs.{no_tail, packed_path, head_fault, begins_covered, tail_past, writer_of, pack_tail, pack_rest, if_headed, pack_program, run_place}
 use Rattle.index_reader.specs.Replies.{number_in}
 use Rattle.index_reader.proofs.Facts.{pack_told-packs}
-use Rattle.gathering.specs.Moments.{Moment, Dropping, IsNamed, file_then, landed_by}
-use Rattle.gathering.specs.Seen.{Asked, asked_in, calls_of, IsSeen, IsSeenCall}
-use Rattle.gathering.specs.Files.{AreFileReads}
-use Rattle.gathering.specs.Packs.{TellsCount, ReadsRest, ReadsPack, pack_of}
-use Rattle.gathering.proofs.Facts.{alike, answers_as, length_told, read_told}
+use Rattle.reader_laws.specs.Moments.{Moment, Dropping, IsNamed, file_then, landed_by}
+use Rattle.reader_laws.specs.Seen.{Asked, asked_in, calls_of, IsSeen, IsSeenCall}
+use Rattle.reader_laws.specs.Files.{AreFileReads}
+use Rattle.reader_laws.specs.Packs.{TellsCount, ReadsRest, ReadsPack, pack_of}
+use Rattle.reader_laws.proofs.Gathered.Facts.{alike, answers_as, length_told, read_told}
 use Rattle.reader_laws.specs.Sharing.{in_room}
 use Rattle.reader_laws.proofs.Calls.Calling.{asked_all, calls_are, calls_append, given_so, same_ok, number_given, bytes_given}
 use Rattle.reader_laws.proofs.Droppings.Checking.{Longer}

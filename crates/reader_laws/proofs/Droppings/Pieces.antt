@@ -12,9 +12,9 @@ use Rattle.plain_file.proofs.Facts.{Among, All-Among, cases_Option, filtered-Amo
 use Rattle.interval_merge.specs.Lists.{newest_source}
 use Rattle.interval_merge.specs.Writer.{HasPiece}
 use Rattle.index_reader.specs.Runs.{one_byte, grown, goes_on, with_byte, runs_from, runs_of, pieces_of, merged_of}
-use Rattle.gathering.specs.Gathering.{Gathered}
-use Rattle.gathering.specs.View.{tails_of}
-use Rattle.gathering.proofs.Facts.{All-append}
+use Rattle.reader_laws.specs.Gathering.{Gathered}
+use Rattle.reader_laws.specs.View.{tails_of}
+use Rattle.reader_laws.proofs.Gathered.Facts.{All-append}
 
 -- ---- the runs of a question by bytes
 

@@ -9,10 +9,10 @@ use Rattle.plain_file.specs.Runs.{ArePieces}
 use Rattle.interval_merge.specs.Writer.{HasPiece}
 use Rattle.turn_object.specs.Callers.{made_by}
 use Rattle.mount_model.specs.History.{Event}
-use Rattle.flow.specs.declared.stuck.Stuck.{Stuck}
-use Rattle.flow.specs.Running.{Runs}
-use Rattle.flow.specs.Replies.{on_ok}
-use Rattle.flow.proofs.Facts.{runs_in_two}
+use Rattle.mount_model.specs.declared.stuck.Stuck.{Stuck}
+use Rattle.mount_model.specs.Running.{Runs}
+use Rattle.mount_model.specs.FlowReplies.{on_ok}
+use Rattle.mount_model.proofs.Flows.Facts.{runs_in_two}
 use Rattle.index_reader.specs.declared.listing.Dropping.{Dropping as Listed}
 use Rattle.index_reader.specs.declared.entries.Tail.{Tail}
 use Rattle.index_reader.specs.declared.sharing.Share.{Share}
@@ -22,11 +22,11 @@ use Rattle.index_reader.specs.Runs.{pieces_of, merged_of}
 use Rattle.index_reader.specs.Sharing.{nothing, covered, added, share_of, dropping_program, gathers, share_program}
 use Rattle.index_reader.specs.Packs.{no_tail, packed_path, pack_program}
 use Rattle.index_reader.specs.Tails.{tail_program}
-use Rattle.gathering.specs.Moments.{Moment, IsNamed}
-use Rattle.gathering.specs.Seen.{Asked, calls_of, IsSeen}
-use Rattle.gathering.specs.Gathering.{Gathered, Gathers, GathersAll, GathersIndex, GathersSo}
-use Rattle.gathering.specs.View.{tails_of}
-use Rattle.gathering.proofs.Facts.{seen_split}
+use Rattle.reader_laws.specs.Moments.{Moment, IsNamed}
+use Rattle.reader_laws.specs.Seen.{Asked, calls_of, IsSeen}
+use Rattle.reader_laws.specs.Gathering.{Gathered, Gathers, GathersAll, GathersIndex, GathersSo}
+use Rattle.reader_laws.specs.View.{tails_of}
+use Rattle.reader_laws.proofs.Gathered.Facts.{seen_split}
 use Rattle.reader_laws.specs.Covering.{cover_with}
 use Rattle.reader_laws.specs.Sharing.{in_room, gathered_of, cover_before, covers_with, IsShareOf}
 use Rattle.reader_laws.proofs.Calls.Calling.{asked_all, calls_are, calls_append, FitsRead, reads_fit, same_ok}

@@ -13,22 +13,22 @@ use Rattle.mount_model.specs.declared.reply.Reply.TheVariants.{Looked}
 use Rattle.mount_model.specs.Paths.{index_path}
 use Rattle.mount_model.specs.History.{Event}
 use Rattle.mount_sound.specs.Landed.{whole}
-use Rattle.story.specs.Program.{done}
-use Rattle.story.specs.Calls.{AreCallsOf}
-use Rattle.flow.specs.declared.stuck.Stuck.{Stuck}
-use Rattle.flow.specs.Running.{asking}
-use Rattle.flow.specs.Replies.{Tries, damage, bytes_in}
-use Rattle.flow.specs.Entries.{is_next}
+use Rattle.mount_model.specs.Program.{done}
+use Rattle.mount_model.specs.Calls.{AreCallsOf}
+use Rattle.mount_model.specs.declared.stuck.Stuck.{Stuck}
+use Rattle.mount_model.specs.Running.{asking}
+use Rattle.mount_model.specs.FlowReplies.{Tries, damage, bytes_in}
+use Rattle.mount_model.specs.Entries.{is_next}
 use Rattle.index_reader.specs.declared.listing.Dropping.{Dropping as Listed}
 use Rattle.index_reader.specs.declared.entries.Tail.{Tail}
 use Rattle.index_reader.specs.Replies.{log_length_in, number_in}
 use Rattle.index_reader.specs.Entries.{longer, checked}
 use Rattle.index_reader.specs.Packs.{no_tail}
 use Rattle.index_reader.specs.Tails.{if_checked, looked, reads_left, reads_on, log_then, tail_program}
-use Rattle.flow.specs.Entries.{next_read}
+use Rattle.mount_model.specs.Entries.{next_read}
 use Rattle.index_reader.proofs.Indices.TailLemmas.{reads_going_on}
-use Rattle.gathering.specs.Seen.{asked_in}
-use Rattle.gathering.specs.Gathering.{IsLength, IsLogLength, IsRead, AreReads, GathersIndex}
+use Rattle.reader_laws.specs.Seen.{asked_in}
+use Rattle.reader_laws.specs.Gathering.{IsLength, IsLogLength, IsRead, AreReads, GathersIndex}
 use Rattle.reader_laws.specs.Sharing.{in_room, gathered_of}
 use Rattle.reader_laws.proofs.Calls.Calling.{asked_all, given_so, passed_so, same_ok, number_given, bytes_given, FitsRead}
 use Rattle.reader_laws.proofs.Droppings.Checking.{Longer, no_longer, longer_on, within_more, AllCount, SomeCount, all_here, all_later, some_later, ends_here}

@@ -8,12 +8,12 @@ use Rattle.mount_model.specs.declared.reply.Reply.TheVariants.{Fault, NoMemory}
 use Rattle.mount_model.specs.State.{State}
 use Rattle.mount_model.specs.History.{Event}
 use Rattle.mount_sound.specs.Owed.{IsLawful}
-use Rattle.flow.specs.declared.stuck.Stuck.{Stuck}
-use Rattle.flow.specs.declared.stuck.Stuck.TheVariants as stuck
-use Rattle.flow.specs.Running.{Runs}
-use Rattle.flow.specs.Replies.{Tries, given, trouble}
-use Rattle.gathering.specs.Moments.{Moment, moment_after}
-use Rattle.gathering.proofs.Facts.{follows}
+use Rattle.mount_model.specs.declared.stuck.Stuck.{Stuck}
+use Rattle.mount_model.specs.declared.stuck.Stuck.TheVariants as stuck
+use Rattle.mount_model.specs.Running.{Runs}
+use Rattle.mount_model.specs.FlowReplies.{Tries, given, trouble}
+use Rattle.reader_laws.specs.Moments.{Moment, moment_after}
+use Rattle.reader_laws.proofs.Gathered.Facts.{follows}
 use Rattle.reader_laws.specs.Failing.{FailsByStore}
 use Rattle.reader_laws.proofs.Soundness.LookEnds.{Fails}
 use Rattle.reader_laws.proofs.Calls.Troubles.{fails_there, fails_later}

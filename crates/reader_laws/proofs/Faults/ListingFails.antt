@@ -39,18 +39,18 @@ use Rattle.mount_model.specs.State.{State, last_id}
 use Rattle.mount_model.specs.Step.{Answers}
 use Rattle.mount_model.specs.History.{Event}
 use Rattle.mount_model.proofs.Facts.{match_cases}
-use Rattle.mount_shape.specs.Container.{IsContainer}
-use Rattle.mount_shape.specs.Shape.{IsDrawnBy}
-use Rattle.mount_shape.proofs.Facts.{container_at, shape_of}
+use Rattle.mount_sound.specs.Container.{IsContainer}
+use Rattle.mount_sound.specs.Shape.{IsDrawnBy}
+use Rattle.mount_sound.proofs.Shapes.Facts.{container_at, shape_of}
 use Rattle.mount_sound.specs.Flats.{AreCovered, IsCovered}
 use Rattle.mount_sound.specs.Owed.{IsLawful}
-use Rattle.story.specs.Program.{done}
-use Rattle.flow.specs.declared.stuck.Stuck.{Stuck}
-use Rattle.flow.specs.declared.stuck.Stuck.TheVariants as stuck
-use Rattle.flow.specs.Running.{Runs}
-use Rattle.flow.specs.Replies.{Tries, given, names_in, on_ok, room_in, trouble}
-use Rattle.flow.specs.Listed.{file_in}
-use Rattle.flow.proofs.Facts.{runs_in_two}
+use Rattle.mount_model.specs.Program.{done}
+use Rattle.mount_model.specs.declared.stuck.Stuck.{Stuck}
+use Rattle.mount_model.specs.declared.stuck.Stuck.TheVariants as stuck
+use Rattle.mount_model.specs.Running.{Runs}
+use Rattle.mount_model.specs.FlowReplies.{Tries, given, names_in, on_ok, room_in, trouble}
+use Rattle.mount_model.specs.FlowListed.{file_in}
+use Rattle.mount_model.proofs.Flows.Facts.{runs_in_two}
 use Rattle.index_reader.specs.declared.listing.Listing.{Listing}
 use Rattle.index_reader.specs.FileReads.{bytes_left, parts_of}
 use Rattle.index_reader.specs.FlatRules.{flat_told}
@@ -60,10 +60,10 @@ use Rattle.index_reader.specs.Opening.{flat_bytes, flat_or_damage, flat_program,
 use Rattle.index_reader.specs.Replies.{number_in}
 use Rattle.index_reader.proofs.Facts.{flat_item-here, flat_told-valid}
 use Rattle.turn_object.specs.Callers.{made_by}
-use Rattle.gathering.specs.Flats.{IsFlatName}
-use Rattle.gathering.specs.Moments.{Moment, IsSoundAt, Grows, HadItem, file_in_room, file_told, file_then, moment_after, next_moment}
-use Rattle.gathering.specs.Seen.{IsSeen}
-use Rattle.gathering.proofs.Facts.{any_found, flat_right, follows, grows_after, held_then, legal_first, legal_rest, named_file, seen, sound_after, WasRight}
+use Rattle.reader_laws.specs.Flats.{IsFlatName}
+use Rattle.reader_laws.specs.Moments.{Moment, IsSoundAt, Grows, HadItem, file_in_room, file_told, file_then, moment_after, next_moment}
+use Rattle.reader_laws.specs.Seen.{IsSeen}
+use Rattle.reader_laws.proofs.Gathered.Facts.{any_found, flat_right, follows, grows_after, held_then, legal_first, legal_rest, named_file, seen, sound_after, WasRight}
 use Rattle.reader_laws.specs.Failing.{FailsByStore, FailsOrLacks, IsContainerAt}
 use Rattle.reader_laws.specs.Opening.{Lists}
 use Rattle.reader_laws.proofs.Calls.Calling.{calls_are}

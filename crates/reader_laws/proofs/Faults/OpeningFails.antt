@@ -3,12 +3,12 @@ use Rattle.std.proofs.Common.{◌≡◌, ◌∙◌, ℕ, List, ◌++◌, sym, �
 use Rattle.std.specs.Prelude.{Err}
 use Rattle.mount_model.specs.History.{Event, state_after}
 use Rattle.mount_sound.specs.Owed.{IsLawful}
-use Rattle.flow.specs.declared.stuck.Stuck.{Stuck}
-use Rattle.flow.specs.Running.{Runs}
-use Rattle.flow.specs.Replies.{Tries}
+use Rattle.mount_model.specs.declared.stuck.Stuck.{Stuck}
+use Rattle.mount_model.specs.Running.{Runs}
+use Rattle.mount_model.specs.FlowReplies.{Tries}
 use Rattle.index_reader.specs.declared.listing.Listing.{Listing}
-use Rattle.gathering.specs.Moments.{Moment, IsSoundAt}
-use Rattle.gathering.proofs.Facts.{legal_first}
+use Rattle.reader_laws.specs.Moments.{Moment, IsSoundAt}
+use Rattle.reader_laws.proofs.Gathered.Facts.{legal_first}
 use Rattle.reader_laws.specs.Failing.{FailsByStore, FailsOrLacks}
 use Rattle.reader_laws.specs.Opening.{Lists}
 use Rattle.reader_laws.specs.Troubled.{IsStuckBehind, IsStuckInShare, IsStuckInTruncs, OpensInTrouble}

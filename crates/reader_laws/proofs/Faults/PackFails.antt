@@ -20,12 +20,12 @@ use Rattle.mount_model.specs.History.{Event}
 use Rattle.mount_sound.specs.Ledger.{entries_in}
 use Rattle.mount_sound.specs.Owed.{IsLawful}
 use Rattle.mount_sound.proofs.Facts.{in_order_take, take_less}
-use Rattle.story.specs.Program.{done}
+use Rattle.mount_model.specs.Program.{done}
 use Rattle.turn_object.specs.Callers.{made_by}
-use Rattle.flow.specs.declared.stuck.Stuck.{Stuck}
-use Rattle.flow.specs.Running.{Runs}
-use Rattle.flow.specs.Replies.{Tries, given, on_ok, damage, bytes_in, trouble}
-use Rattle.flow.proofs.Facts.{runs_in_two}
+use Rattle.mount_model.specs.declared.stuck.Stuck.{Stuck}
+use Rattle.mount_model.specs.Running.{Runs}
+use Rattle.mount_model.specs.FlowReplies.{Tries, given, on_ok, damage, bytes_in, trouble}
+use Rattle.mount_model.proofs.Flows.Facts.{runs_in_two}
 use Rattle.index_reader.specs.declared.listing.Dropping.{Dropping as Listed}
 use Rattle.index_reader.specs.declared.entries.Tail.{Tail}
 use Rattle.index_reader.specs.FileReads.{next_part, parts_of, parts, bytes_left}
@@ -33,10 +33,10 @@ use Rattle.index_reader.specs.PackRules.{pack_told}
 use Rattle.index_reader.specs.Packs.{no_tail, packed_path, head_fault, begins_covered, tail_past, writer_of, pack_tail, pack_rest, if_headed, head_then, pack_program, run_place}
 use Rattle.index_reader.specs.Replies.{number_in}
 use Rattle.index_reader.proofs.Facts.{pack_told-packs}
-use Rattle.gathering.specs.Moments.{Moment, IsSoundAt, Dropping, IsNamed, Stood, Grows, HadItem, file_in_room, file_told, file_then, landed_by, landed, issued_by, moment_after, next_moment}
-use Rattle.gathering.specs.Seen.{IsSeen}
-use Rattle.gathering.specs.Packs.{pack_of}
-use Rattle.gathering.proofs.Facts.{grows_after, held_then, landed_is_first, legal_first, read_ends, seen, stood_grows}
+use Rattle.reader_laws.specs.Moments.{Moment, IsSoundAt, Dropping, IsNamed, Stood, Grows, HadItem, file_in_room, file_told, file_then, landed_by, landed, issued_by, moment_after, next_moment}
+use Rattle.reader_laws.specs.Seen.{IsSeen}
+use Rattle.reader_laws.specs.Packs.{pack_of}
+use Rattle.reader_laws.proofs.Gathered.Facts.{grows_after, held_then, landed_is_first, legal_first, read_ends, seen, stood_grows}
 use Rattle.reader_laws.specs.Failing.{FailsByStore, IsContainerAt}
 use Rattle.reader_laws.specs.Sharing.{in_room}
 use Rattle.reader_laws.proofs.Calls.Calling.{calls_are}

@@ -17,13 +17,13 @@ use Rattle.mount_model.specs.Paths.{Name, index_path}
 use Rattle.container_layout.specs.Paths.{openhosts}
 use Rattle.mount_model.specs.History.{Event}
 use Rattle.mount_model.specs.State.{last_id}
-use Rattle.mount_shape.specs.Container.{IsContainer}
-use Rattle.mount_shape.specs.Shape.{IsDrawnBy}
+use Rattle.mount_sound.specs.Container.{IsContainer}
+use Rattle.mount_sound.specs.Shape.{IsDrawnBy}
 use Rattle.mount_sound.specs.Owed.{IsLawful}
-use Rattle.flow.specs.declared.stuck.Stuck.{Stuck}
-use Rattle.flow.specs.Running.{Runs}
-use Rattle.flow.specs.Replies.{Tries, given, names_in, on_ok, trouble}
-use Rattle.flow.specs.Listed.{file_in}
+use Rattle.mount_model.specs.declared.stuck.Stuck.{Stuck}
+use Rattle.mount_model.specs.Running.{Runs}
+use Rattle.mount_model.specs.FlowReplies.{Tries, given, names_in, on_ok, trouble}
+use Rattle.mount_model.specs.FlowListed.{file_in}
 use Rattle.index_reader.specs.declared.listing.Listing.{Listing}
 use Rattle.index_reader.specs.declared.scanning.Scan.{Scan}
 use Rattle.index_reader.specs.Opening.{listed, listing_of, scans, top_program}
@@ -31,8 +31,8 @@ use Rattle.index_reader.specs.Scanning.{nothing_found, scanned}
 use Rattle.index_reader.specs.Searching.{has_name}
 use Rattle.index_reader.specs.Tops.{shown, top_shows}
 use Rattle.container_layout.specs.Paths.{hostdirs}
-use Rattle.gathering.specs.Moments.{Moment, IsSoundAt, Grows, HadItem, moment_after, next_moment}
-use Rattle.gathering.proofs.Facts.{folder_named, grows_after, in_range, legal_first, not_top}
+use Rattle.reader_laws.specs.Moments.{Moment, IsSoundAt, Grows, HadItem, moment_after, next_moment}
+use Rattle.reader_laws.proofs.Gathered.Facts.{folder_named, grows_after, in_range, legal_first, not_top}
 use Rattle.reader_laws.specs.Failing.{FailsByStore, IsContainerAt}
 use Rattle.reader_laws.proofs.Faults.Failing.{here_fails, later_fails}
 use Rattle.reader_laws.proofs.Soundness.Folders.{HadFolder, folder_after, folder_next, had_it, has_it}

@@ -17,10 +17,10 @@ use Rattle.mount_model.specs.Paths.{Name, access_path, flats}
 use Rattle.store_api.specs.Names.{marks_folder}
 use Rattle.mount_model.specs.History.{Event, state_after}
 use Rattle.mount_sound.specs.Owed.{IsLawful}
-use Rattle.flow.specs.declared.stuck.Stuck.{Stuck}
-use Rattle.flow.specs.Running.{Runs}
-use Rattle.flow.specs.Replies.{Tries, on_ok}
-use Rattle.flow.proofs.Facts.{runs_in_two}
+use Rattle.mount_model.specs.declared.stuck.Stuck.{Stuck}
+use Rattle.mount_model.specs.Running.{Runs}
+use Rattle.mount_model.specs.FlowReplies.{Tries, on_ok}
+use Rattle.mount_model.proofs.Flows.Facts.{runs_in_two}
 use Rattle.index_reader.specs.declared.listing.Dropping.{Dropping as Listed}
 use Rattle.index_reader.specs.declared.listing.Listing.{Listing}
 use Rattle.index_reader.specs.declared.entries.Tail.{Tail}
@@ -31,14 +31,14 @@ use Rattle.index_reader.specs.Packs.{no_tail, packed_path, pack_program}
 use Rattle.index_reader.specs.Sharing.{nothing, added, share_of, dropping_program, gathers, share_program}
 use Rattle.index_reader.specs.Tails.{tail_program}
 use Rattle.index_reader.specs.Truncs.{trunc_program}
-use Rattle.gathering.specs.Moments.{Moment, IsSoundAt, Dropping, IsNamed, Stood, HadItem, Grows, file_in_room, file_then, file_told, moment_after}
-use Rattle.gathering.specs.Seen.{Asked, calls_of, IsSeen, IsSeenCall}
-use Rattle.gathering.specs.Flats.{IsCoveredSo, covered_count, covers_of}
-use Rattle.gathering.specs.Gathering.{Gathered, CoversLanded}
-use Rattle.gathering.specs.Listing.{IsListed, NamesPack, AreFound}
+use Rattle.reader_laws.specs.Moments.{Moment, IsSoundAt, Dropping, IsNamed, Stood, HadItem, Grows, file_in_room, file_then, file_told, moment_after}
+use Rattle.reader_laws.specs.Seen.{Asked, calls_of, IsSeen, IsSeenCall}
+use Rattle.reader_laws.specs.Flats.{IsCoveredSo, covered_count, covers_of}
+use Rattle.reader_laws.specs.Gathering.{Gathered, CoversLanded}
+use Rattle.reader_laws.specs.GatheringListing.{IsListed, NamesPack, AreFound}
 use Rattle.plfs_types.specs.Places.{IsAmong}
-use Rattle.gathering.specs.Opening.{IsCutOf}
-use Rattle.gathering.proofs.Facts.{IsTaken, all_at, among, answers_as, any_found, flat_taken, folder_listed, follows, found_any, grows_after, grows_refl, grows_trans, legal_first, legal_rest, moment-append, named_file, not_top, scan_finds, scan_found, seen, seen_grows, seen_split, sound_after, stood_grows}
+use Rattle.reader_laws.specs.GatheringOpening.{IsCutOf}
+use Rattle.reader_laws.proofs.Gathered.Facts.{IsTaken, all_at, among, answers_as, any_found, flat_taken, folder_listed, follows, found_any, grows_after, grows_refl, grows_trans, legal_first, legal_rest, moment-append, named_file, not_top, scan_finds, scan_found, seen, seen_grows, seen_split, sound_after, stood_grows}
 use Rattle.reader_laws.specs.Failing.{FailsByStore, IsContainerAt}
 use Rattle.reader_laws.specs.Listing.{HasListed, IsPackedAs}
 use Rattle.reader_laws.specs.Opening.{Lists}

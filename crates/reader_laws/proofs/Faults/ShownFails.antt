@@ -9,19 +9,19 @@ use Rattle.mount_model.specs.Paths.{Name, access_path}
 use Rattle.mount_model.specs.History.{Event}
 use Rattle.mount_model.specs.State.{State, last_id}
 use Rattle.mount_model.specs.Step.{IsStep}
-use Rattle.mount_shape.specs.Container.{IsContainer}
-use Rattle.mount_shape.specs.Shape.{IsDrawnBy}
+use Rattle.mount_sound.specs.Container.{IsContainer}
+use Rattle.mount_sound.specs.Shape.{IsDrawnBy}
 use Rattle.mount_sound.specs.Ledger.{Ledger}
 use Rattle.mount_sound.specs.Owed.{IsLawful, May}
 use Rattle.mount_sound.specs.Sound.{IsSoundFor}
-use Rattle.flow.specs.declared.stuck.Stuck.{Stuck}
-use Rattle.flow.specs.Running.{Runs}
+use Rattle.mount_model.specs.declared.stuck.Stuck.{Stuck}
+use Rattle.mount_model.specs.Running.{Runs}
 use Rattle.index_reader.specs.Opening.{no_flat, scans}
 use Rattle.index_reader.specs.Scanning.{nothing_found}
 use Rattle.index_reader.specs.Tops.{shown, top_shows}
 use Rattle.container_layout.specs.Paths.{hostdirs}
-use Rattle.gathering.specs.Moments.{Moment, Grows, file_in_room, file_told, next_moment}
-use Rattle.gathering.proofs.Facts.{grows_after}
+use Rattle.reader_laws.specs.Moments.{Moment, Grows, file_in_room, file_told, next_moment}
+use Rattle.reader_laws.proofs.Gathered.Facts.{grows_after}
 use Rattle.reader_laws.specs.Failing.{FailsByStore, IsContainerAt}
 use Rattle.reader_laws.proofs.Soundness.Folders.{HadFolder, folder_next}
 use Rattle.reader_laws.proofs.Containers.Listings.{range_below}

@@ -22,21 +22,21 @@ use Rattle.mount_sound.specs.Landed.{whole}
 use Rattle.mount_sound.specs.Ledger.{entries_in}
 use Rattle.mount_sound.specs.Owed.{IsLawful}
 use Rattle.mount_sound.proofs.Facts.{in_order_take, logged_append, logged_take, order_append, order_drop, take_less}
-use Rattle.flow.specs.declared.stuck.Stuck.{Stuck}
-use Rattle.flow.specs.Running.{Runs}
-use Rattle.flow.specs.Replies.{Tries, bytes_in, damage, given, trouble}
-use Rattle.story.specs.Program.{done}
+use Rattle.mount_model.specs.declared.stuck.Stuck.{Stuck}
+use Rattle.mount_model.specs.Running.{Runs}
+use Rattle.mount_model.specs.FlowReplies.{Tries, bytes_in, damage, given, trouble}
+use Rattle.mount_model.specs.Program.{done}
 use Rattle.turn_object.specs.Callers.{made_by}
 use Rattle.index_reader.specs.declared.listing.Dropping.{Dropping as Listed}
 use Rattle.index_reader.specs.declared.entries.Tail.{Tail}
 use Rattle.index_reader.specs.Packs.{no_tail}
 use Rattle.index_reader.specs.Replies.{log_length_in, number_in}
 use Rattle.index_reader.specs.Tails.{if_checked, if_logged, if_told, log_then as log_program, looked, reads_left, reads_on, tail_program}
-use Rattle.flow.specs.Entries.{next_read}
+use Rattle.mount_model.specs.Entries.{next_read}
 use Rattle.index_reader.proofs.Indices.TailLemmas.{reads_going_on}
-use Rattle.gathering.specs.Failing.{BytesOrTrouble}
-use Rattle.gathering.specs.Moments.{Moment, IsSoundAt, Dropping, IsNamed, Stood, Grows, file_in_room, file_told, index_then, log_then, issued_by, landed, moment_after, next_moment}
-use Rattle.gathering.proofs.Facts.{entries_stay, grows_after, held_then, in_a_room, in_tree, its_log, landed_logged, landed_whole, legal_first, length-entries, length_taken, log_grows, read_ends, stands, stood_grows}
+use Rattle.reader_laws.specs.GatheringFailing.{BytesOrTrouble}
+use Rattle.reader_laws.specs.Moments.{Moment, IsSoundAt, Dropping, IsNamed, Stood, Grows, file_in_room, file_told, index_then, log_then, issued_by, landed, moment_after, next_moment}
+use Rattle.reader_laws.proofs.Gathered.Facts.{entries_stay, grows_after, held_then, in_a_room, in_tree, its_log, landed_logged, landed_whole, legal_first, length-entries, length_taken, log_grows, read_ends, stands, stood_grows}
 use Rattle.reader_laws.specs.Covering.{cover_with, empty_cover}
 use Rattle.reader_laws.specs.Failing.{FailsByStore, IsContainerAt}
 use Rattle.reader_laws.specs.Sharing.{in_room}

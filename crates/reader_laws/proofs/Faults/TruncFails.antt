@@ -12,21 +12,21 @@ use Rattle.store_api.specs.declared.tree.Room.{Room}
 use Rattle.store_api.specs.Room.{is_top}
 use Rattle.store_laws.specs.Files.{file_at}
 use Rattle.store_laws.specs.There.{ListsFolder}
-use Rattle.mount_shape.specs.Container.{IsItemFile}
-use Rattle.mount_shape.specs.Shape.{IsDrawnBy}
+use Rattle.mount_sound.specs.Container.{IsItemFile}
+use Rattle.mount_sound.specs.Shape.{IsDrawnBy}
 use Rattle.mount_model.specs.Paths.{Name, truncs as truncs_folder}
 use Rattle.mount_model.specs.State.{last_id}
 use Rattle.mount_model.specs.History.{Event}
 use Rattle.mount_sound.specs.Owed.{IsLawful}
-use Rattle.story.specs.Program.{done}
-use Rattle.flow.specs.declared.stuck.Stuck.{Stuck}
-use Rattle.flow.specs.Running.{Runs}
-use Rattle.flow.specs.Replies.{given, names_in, trouble}
-use Rattle.flow.specs.Names.{trunc_in}
+use Rattle.mount_model.specs.Program.{done}
+use Rattle.mount_model.specs.declared.stuck.Stuck.{Stuck}
+use Rattle.mount_model.specs.Running.{Runs}
+use Rattle.mount_model.specs.FlowReplies.{given, names_in, trouble}
+use Rattle.mount_model.specs.Names.{trunc_in}
 use Rattle.index_reader.specs.Truncs.{if_trunc, inserted, truncs_of, truncs_path, trunc_program}
-use Rattle.flow.proofs.Facts.{trunc_in-is}
-use Rattle.gathering.specs.Moments.{Moment, IsSoundAt, moment_after}
-use Rattle.gathering.proofs.Facts.{file_of, grows_after, legal_first, named_file}
+use Rattle.mount_model.proofs.Flows.Facts.{trunc_in-is}
+use Rattle.reader_laws.specs.Moments.{Moment, IsSoundAt, moment_after}
+use Rattle.reader_laws.proofs.Gathered.Facts.{file_of, grows_after, legal_first, named_file}
 use Rattle.reader_laws.specs.Failing.{FailsByStore, IsContainerAt}
 use Rattle.reader_laws.proofs.Faults.Failing.{here_fails}
 use Rattle.reader_laws.proofs.Calls.Histories.{first_of}

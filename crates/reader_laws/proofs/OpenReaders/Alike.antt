@@ -5,9 +5,9 @@ use Rattle.plain_file.specs.Runs.{ArePieces}
 use Rattle.plain_file.proofs.Facts.{same_runs}
 use Rattle.mount_sound.specs.Ledger.{entries_in}
 use Rattle.index_reader.specs.declared.opened.OpenReader.{OpenReader}
-use Rattle.gathering.specs.Moments.{Moment}
-use Rattle.gathering.specs.Gathering.{Gathered}
-use Rattle.gathering.specs.View.{changes_in, writes_in}
+use Rattle.reader_laws.specs.Moments.{Moment}
+use Rattle.reader_laws.specs.Gathering.{Gathered}
+use Rattle.reader_laws.specs.View.{changes_in, writes_in}
 use Rattle.reader_laws.specs.Opened.{HasOpenReader}
 
 pub readers_alike : (start other end : Moment) (a b : OpenReader) (cut : List Gathered) → HasOpenReader start end a cut → HasOpenReader other end b cut → a.truncs ≡ b.truncs → (a.pieces ≡ b.pieces) × (a.size ≡ b.size) × (a.covers ≡ b.covers)

@@ -18,10 +18,10 @@ use Rattle.index_entry.specs.Entries.{logged, last_stamp}
 use Rattle.index_reader.specs.Covered.{cover_of, or_nothing, AreByWriter}
 use Rattle.index_reader.specs.Found.{item_of}
 use Rattle.index_reader.specs.Sharing.{covered}
-use Rattle.gathering.specs.Moments.{Moment, IsSoundAt, Dropping, issued_by, Grows}
-use Rattle.gathering.specs.Gathering.{Gathered, IsPrefixOf}
-use Rattle.gathering.specs.View.{own_entries, WritersRise}
-use Rattle.gathering.proofs.Facts.{HasAll, alike, count_landed, front, issued_grows, landed_whole, length-entries, length_taken, of_cover, one_gathered, stood}
+use Rattle.reader_laws.specs.Moments.{Moment, IsSoundAt, Dropping, issued_by, Grows}
+use Rattle.reader_laws.specs.Gathering.{Gathered, IsPrefixOf}
+use Rattle.reader_laws.specs.View.{own_entries, WritersRise}
+use Rattle.reader_laws.proofs.Gathered.Facts.{HasAll, alike, count_landed, front, issued_grows, landed_whole, length-entries, length_taken, of_cover, one_gathered, stood}
 use Rattle.reader_laws.specs.Covering.{cover_with, empty_cover, counts_in}
 use Rattle.reader_laws.specs.Sharing.{cover_before, covers_with}
 use Rattle.reader_laws.proofs.Droppings.Checking.{cover_with-append}

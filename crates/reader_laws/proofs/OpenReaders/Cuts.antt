@@ -6,10 +6,10 @@ use Rattle.plfs_types.specs.declared.entries.Entry.{Entry}
 use Rattle.plain_file.proofs.Facts.{Among, All-Among, SameElements}
 use Rattle.mount_model.specs.Regular.{Ascend}
 use Rattle.index_reader.specs.declared.listing.Dropping.{Dropping as Listed}
-use Rattle.gathering.specs.Moments.{Dropping}
-use Rattle.gathering.specs.Gathering.{Gathered}
-use Rattle.gathering.specs.View.{WritersRise, tails_of}
-use Rattle.gathering.proofs.Facts.{among_left, among_right}
+use Rattle.reader_laws.specs.Moments.{Dropping}
+use Rattle.reader_laws.specs.Gathering.{Gathered}
+use Rattle.reader_laws.specs.View.{WritersRise, tails_of}
+use Rattle.reader_laws.proofs.Gathered.Facts.{among_left, among_right}
 use Rattle.reader_laws.specs.Opening.{WritersDiffer}
 use Rattle.reader_laws.specs.Sharing.{in_room}
 

@@ -19,7 +19,7 @@ use Rattle.flat_format.specs.declared.flat.Flat.{Flat}
 use Rattle.interval_merge.specs.Lists.{ArePiecesOfEach, joined}
 use Rattle.mount_model.specs.History.{Event}
 use Rattle.mount_sound.specs.Owed.{IsLawful}
-use Rattle.flow.specs.Running.{Runs}
+use Rattle.mount_model.specs.Running.{Runs}
 use Rattle.mount_sound.specs.Ledger.{entries_in}
 use Rattle.index_reader.specs.declared.gathered.Gathered.{Gathered as Parts}
 use Rattle.index_reader.specs.declared.listing.Dropping.{Dropping as Listed}
@@ -29,15 +29,15 @@ use Rattle.index_reader.specs.declared.sharing.Share.{Share}
 use Rattle.index_reader.specs.Sharing.{share_program}
 use Rattle.index_reader.specs.Covered.{cover_of, or_nothing}
 use Rattle.index_reader.specs.Gathered.{ArePiecesOfAll, IsGatheredOf, pieces_of_each}
-use Rattle.gathering.specs.Moments.{Moment, IsSoundAt, Dropping, IsNamed, moment_after}
-use Rattle.gathering.specs.Seen.{Asked, asked_in, calls_of}
-use Rattle.gathering.specs.Gathering.{Gathered, GathersAll}
-use Rattle.gathering.specs.Listing.{NamesPack}
+use Rattle.reader_laws.specs.Moments.{Moment, IsSoundAt, Dropping, IsNamed, moment_after}
+use Rattle.reader_laws.specs.Seen.{Asked, asked_in, calls_of}
+use Rattle.reader_laws.specs.Gathering.{Gathered, GathersAll}
+use Rattle.reader_laws.specs.GatheringListing.{NamesPack}
 use Rattle.plfs_types.specs.Places.{IsAmong}
-use Rattle.gathering.specs.Flats.{IsCoveredSo, covered_count, covers_of}
-use Rattle.gathering.specs.Opening.{IsCutOf, IsPackedSo, HasView}
-use Rattle.gathering.specs.View.{covered_in, changes_in, tails_in, tails_of, writes_in, WritersRise}
-use Rattle.gathering.proofs.Facts.{alike, all_at, among, among_left, among_right, any_found, found_any, keys_in, legal_first, legal_rest, same_entries, seen, size_of_pieces, sound_after}
+use Rattle.reader_laws.specs.Flats.{IsCoveredSo, covered_count, covers_of}
+use Rattle.reader_laws.specs.GatheringOpening.{IsCutOf, IsPackedSo, HasView}
+use Rattle.reader_laws.specs.View.{covered_in, changes_in, tails_in, tails_of, writes_in, WritersRise}
+use Rattle.reader_laws.proofs.Gathered.Facts.{alike, all_at, among, among_left, among_right, any_found, found_any, keys_in, legal_first, legal_rest, same_entries, seen, size_of_pieces, sound_after}
 use Rattle.reader_laws.specs.Listing.{AreListed, HasListed, IsPackedAs}
 use Rattle.reader_laws.specs.Opened.{IsReaderOf, HasOpenReader}
 use Rattle.reader_laws.specs.Opening.{AreDealt, Portion, droppings_of, ReadsInTurn}

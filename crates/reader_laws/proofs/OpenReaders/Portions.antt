@@ -8,10 +8,10 @@ use Rattle.interval_merge.specs.Lists.{ArePiecesOfEach, joined}
 use Rattle.index_reader.specs.declared.listing.Dropping.{Dropping as Listed}
 use Rattle.index_reader.specs.Gathered.{covers_of, pieces_of_each}
 use Rattle.index_reader.specs.Sharing.{covered}
-use Rattle.gathering.specs.Seen.{Asked}
-use Rattle.gathering.specs.Gathering.{Gathered, GathersAll}
-use Rattle.gathering.specs.View.{tails_of}
-use Rattle.gathering.proofs.Facts.{All-append}
+use Rattle.reader_laws.specs.Seen.{Asked}
+use Rattle.reader_laws.specs.Gathering.{Gathered, GathersAll}
+use Rattle.reader_laws.specs.View.{tails_of}
+use Rattle.reader_laws.proofs.Gathered.Facts.{All-append}
 use Rattle.reader_laws.specs.Covering.{cover_with}
 use Rattle.reader_laws.specs.Opening.{Portion, droppings_of, shares_of}
 use Rattle.reader_laws.specs.Sharing.{in_room, cover_before, covers_with, IsShareOf}

@@ -15,14 +15,14 @@ use Rattle.index_reader.specs.declared.listing.Listing.{Listing}
 use Rattle.index_reader.specs.declared.opened.OpenReader.{OpenReader}
 use Rattle.index_reader.specs.Gathered.{AreFirstOf, IsGatheredOf, covers_of}
 use Rattle.plain_file.specs.Runs.{ArePieces}
-use Rattle.gathering.specs.Moments.{Moment, IsSoundAt, Dropping, Grows, Stood, issued_by, moment_after}
-use Rattle.gathering.specs.Seen.{Asked, asked_in, calls_of, IsSeen}
-use Rattle.gathering.specs.Gathering.{Gathered, GathersAll, IsPrefixOf}
+use Rattle.reader_laws.specs.Moments.{Moment, IsSoundAt, Dropping, Grows, Stood, issued_by, moment_after}
+use Rattle.reader_laws.specs.Seen.{Asked, asked_in, calls_of, IsSeen}
+use Rattle.reader_laws.specs.Gathering.{Gathered, GathersAll, IsPrefixOf}
 use Rattle.plfs_types.specs.Places.{IsAmong}
-use Rattle.gathering.specs.Flats.{covers_of as flat_covers, IsFlatName, TakesNewest, pieces_of}
-use Rattle.gathering.specs.Opening.{IsCutOf, IsOpening, HasView, ListsTruncs}
-use Rattle.gathering.specs.View.{covered_in, WritersRise}
-use Rattle.gathering.proofs.Facts.{HasAll, WasRight, all_at, any_found, flat_right, grows_after, grows_trans, is_among, legal_first, legal_rest, length-entries, length_taken, moment-append, opened, opened_flat, prefix_of, scan_found, seen, seen_grows, seen_split, sound_after, stood_grows}
+use Rattle.reader_laws.specs.Flats.{covers_of as flat_covers, IsFlatName, TakesNewest, pieces_of}
+use Rattle.reader_laws.specs.GatheringOpening.{IsCutOf, IsOpening, HasView, ListsTruncs}
+use Rattle.reader_laws.specs.View.{covered_in, WritersRise}
+use Rattle.reader_laws.proofs.Gathered.Facts.{HasAll, WasRight, all_at, any_found, flat_right, grows_after, grows_trans, is_among, legal_first, legal_rest, length-entries, length_taken, moment-append, opened, opened_flat, prefix_of, scan_found, seen, seen_grows, seen_split, sound_after, stood_grows}
 use Rattle.std.proofs.lemmas.List.Elements.{All-from_recursion}
 use Rattle.reader_laws.specs.Covering.{cover_with, counts_in}
 use Rattle.reader_laws.specs.Listing.{HasListed, HasListedTruncs}

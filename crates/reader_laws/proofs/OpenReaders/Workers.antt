@@ -11,7 +11,7 @@ use Rattle.plain_file.proofs.Facts.{Among, All-Among, SameElements, cases_Option
 use Rattle.interval_merge.specs.Lists.{joined}
 use Rattle.mount_model.specs.History.{Event}
 use Rattle.mount_sound.specs.Owed.{IsLawful}
-use Rattle.flow.specs.Running.{Runs}
+use Rattle.mount_model.specs.Running.{Runs}
 use Rattle.index_reader.specs.declared.gathered.Gathered.{Gathered as Parts}
 use Rattle.index_reader.specs.declared.listing.Dropping.{Dropping as Listed}
 use Rattle.index_reader.specs.declared.listing.Listing.{Listing}
@@ -20,14 +20,14 @@ use Rattle.index_reader.specs.declared.sharing.Share.{Share}
 use Rattle.index_reader.specs.Found.{item_of}
 use Rattle.index_reader.specs.Gathered.{AreFirstOf, IsJoinedOf, IsGatheredOf, covers_of}
 use Rattle.index_reader.specs.Sharing.{share_program}
-use Rattle.gathering.specs.Moments.{Moment, IsNamed, IsSoundAt, Grows, moment_after}
-use Rattle.gathering.specs.Seen.{asked_in, calls_of, Asked}
-use Rattle.gathering.specs.Gathering.{Gathered, Share as Gathering, GatherShares}
+use Rattle.reader_laws.specs.Moments.{Moment, IsNamed, IsSoundAt, Grows, moment_after}
+use Rattle.reader_laws.specs.Seen.{asked_in, calls_of, Asked}
+use Rattle.reader_laws.specs.Gathering.{Gathered, Share as Gathering, GatherShares}
 use Rattle.plfs_types.specs.Places.{IsAmong}
-use Rattle.gathering.specs.Flats.{pieces_of}
-use Rattle.gathering.specs.Opening.{IsSharedOpening, HasView, ListsTruncs}
-use Rattle.gathering.specs.View.{covered_in, tails_of}
-use Rattle.gathering.proofs.Facts.{found_any, grows_after, is_among, legal_first, legal_rest, moment-append, seen, shared_flat, shared_opened, sound_after}
+use Rattle.reader_laws.specs.Flats.{pieces_of}
+use Rattle.reader_laws.specs.GatheringOpening.{IsSharedOpening, HasView, ListsTruncs}
+use Rattle.reader_laws.specs.View.{covered_in, tails_of}
+use Rattle.reader_laws.proofs.Gathered.Facts.{found_any, grows_after, is_among, legal_first, legal_rest, moment-append, seen, shared_flat, shared_opened, sound_after}
 use Rattle.reader_laws.specs.Listing.{HasListed}
 use Rattle.reader_laws.specs.Opened.{IsReaderOf, HasOpenedIn}
 use Rattle.reader_laws.specs.Opening.{Portion, droppings_of, shares_of, Work, portions_of, OpensByWorkers}

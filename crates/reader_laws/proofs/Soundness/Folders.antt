@@ -20,7 +20,7 @@ use Rattle.mount_model.specs.State.{Table}
 use Rattle.mount_model.specs.Step.{IsStep}
 use Rattle.mount_sound.specs.Owed.{IsLawful}
 use Rattle.mount_sound.proofs.Facts.{ActsOn, OfEachAct, step_acts}
-use Rattle.gathering.specs.Moments.{Moment, IsSoundAt, moment_after, next_moment}
+use Rattle.reader_laws.specs.Moments.{Moment, IsSoundAt, moment_after, next_moment}
 use Rattle.reader_laws.proofs.Soundness.LookEnds.{HasContainer}
 
 -- ---- an act

@@ -9,8 +9,8 @@ use Rattle.mount_model.specs.declared.row.Making.TheVariants as making
 use Rattle.mount_sound.specs.Dropping.{IsWriter}
 use Rattle.mount_sound.specs.Flats.{IsRightPack}
 use Rattle.mount_sound.specs.Items.{HasItem}
-use Rattle.gathering.specs.Moments.{Moment, IsSoundAt, HadItem, file_in_room, file_told}
-use Rattle.gathering.proofs.Facts.{in_a_room, in_tree}
+use Rattle.reader_laws.specs.Moments.{Moment, IsSoundAt, HadItem, file_in_room, file_told}
+use Rattle.reader_laws.proofs.Gathered.Facts.{in_a_room, in_tree}
 
 pub same_room : (a b : Room) (o : Option Room) → o ≡ Some a → o ≡ Some b → a ≡ b
 same_room a b o p q = cc

@@ -14,10 +14,10 @@ use Rattle.store_laws.specs.Differ.{is_listed}
 use Rattle.store_laws.specs.Files.{file_at}
 use Rattle.store_laws.specs.There.{AreNamesOf}
 use Rattle.mount_model.specs.Paths.{Name, flats, metadata, truncs}
-use Rattle.mount_shape.specs.Container.{IsContainer, IsContainerFolder, IsItemFile}
-use Rattle.flow.specs.declared.stuck.Stuck.{Stuck}
-use Rattle.flow.specs.Replies.{damage}
-use Rattle.flow.specs.Listed.{file_in}
+use Rattle.mount_sound.specs.Container.{IsContainer, IsContainerFolder, IsItemFile}
+use Rattle.mount_model.specs.declared.stuck.Stuck.{Stuck}
+use Rattle.mount_model.specs.FlowReplies.{damage}
+use Rattle.mount_model.specs.FlowListed.{file_in}
 use Rattle.index_reader.specs.Items.{flat_item, hostdir_item, is_flats, is_of_hostdir}
 use Rattle.index_reader.specs.Newest.{flats_path, greater_id, if_flat, newest_in}
 use Rattle.index_reader.specs.Scanning.{foreign_in, foreign_or, unless_foreign}
@@ -25,7 +25,7 @@ use Rattle.index_reader.specs.Searching.{has_name, same_bytes}
 use Rattle.index_reader.specs.Tops.{access, foreign_at_top, required, shown, top_names, top_shows}
 use Rattle.container_layout.specs.Paths.{hostdirs}
 use Rattle.index_reader.proofs.Facts.{same_bytes-itself}
-use Rattle.gathering.proofs.Facts.{among_listed, file_named, file_of, folder_named, in_range}
+use Rattle.reader_laws.proofs.Gathered.Facts.{among_listed, file_named, file_of, folder_named, in_range}
 use Rattle.reader_laws.proofs.OpenReaders.Cuts.{among_map}
 
 -- ---- flattened indices

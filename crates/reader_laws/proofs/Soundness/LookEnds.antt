@@ -31,10 +31,10 @@ use Rattle.mount_model.specs.Making.{Told, MakesAct, Refuses, room_check}
 use Rattle.mount_model.specs.Looking.{look_step, look_outcome, look_reply}
 use Rattle.mount_model.specs.Step.{Answers}
 use Rattle.mount_model.proofs.Facts.{match_cases}
-use Rattle.mount_shape.specs.Container.{IsContainer}
-use Rattle.mount_shape.specs.Shape.{IsDrawnBy}
-use Rattle.gathering.specs.Moments.{Moment, IsSoundAt, Grows}
-use Rattle.gathering.proofs.Facts.{in_a_room, in_tree}
+use Rattle.mount_sound.specs.Container.{IsContainer}
+use Rattle.mount_sound.specs.Shape.{IsDrawnBy}
+use Rattle.reader_laws.specs.Moments.{Moment, IsSoundAt, Grows}
+use Rattle.reader_laws.proofs.Gathered.Facts.{in_a_room, in_tree}
 use Rattle.reader_laws.specs.Failing.{IsContainerAt}
 
 -- ---- a container

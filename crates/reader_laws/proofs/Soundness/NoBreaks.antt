@@ -12,12 +12,12 @@ use Rattle.index_entry.specs.Spelling.{spelling, spelling_all, entry_in, FitsPla
 use Rattle.index_entry.specs.Valid.{IsValidEntry}
 use Rattle.index_entry.proofs.Facts.{entries_format, length-spelling, length-spelling_all, take-spelling_all, valid_fits_places}
 use Rattle.mount_model.specs.History.{Event}
-use Rattle.story.specs.Calls.{AreCallsOf}
-use Rattle.flow.specs.declared.stuck.Stuck.{Stuck}
-use Rattle.flow.specs.Running.{asking}
-use Rattle.flow.specs.Replies.{Tries}
-use Rattle.flow.specs.Entries.{is_next}
-use Rattle.story.specs.Program.{done}
+use Rattle.mount_model.specs.Calls.{AreCallsOf}
+use Rattle.mount_model.specs.declared.stuck.Stuck.{Stuck}
+use Rattle.mount_model.specs.Running.{asking}
+use Rattle.mount_model.specs.FlowReplies.{Tries}
+use Rattle.mount_model.specs.Entries.{is_next}
+use Rattle.mount_model.specs.Program.{done}
 use Rattle.index_reader.specs.declared.listing.Dropping.{Dropping as Listed}
 use Rattle.index_reader.specs.declared.entries.Tail.{Tail}
 use Rattle.index_reader.specs.Entries.{longer, checked}

@@ -10,15 +10,15 @@ use Rattle.container_layout.specs.declared.items.Item.{Item}
 use Rattle.container_layout.specs.declared.items.Item.TheVariants as item
 use Rattle.container_layout.specs.Paths.{IsAt, hostdir_of}
 use Rattle.store_laws.specs.Differ.{NamesDiffer, is_listed}
-use Rattle.flow.specs.Replies.{damage}
-use Rattle.flow.specs.Listed.{file_in}
+use Rattle.mount_model.specs.FlowReplies.{damage}
+use Rattle.mount_model.specs.FlowListed.{file_in}
 use Rattle.mount_model.specs.Paths.{Name}
 use Rattle.index_reader.specs.declared.scanning.Scan.{Scan}
 use Rattle.index_reader.specs.Items.{hostdir_item}
 use Rattle.index_reader.specs.Scanning.{has_writer, owner, owner_of, placed, taken, taken_all}
 use Rattle.index_reader.proofs.Facts.{hostdir_item-at}
-use Rattle.gathering.specs.Moments.{Moment, IsSoundAt, HadItem}
-use Rattle.gathering.proofs.Facts.{All-weaker, among_listed}
+use Rattle.reader_laws.specs.Moments.{Moment, IsSoundAt, HadItem}
+use Rattle.reader_laws.proofs.Gathered.Facts.{All-weaker, among_listed}
 use Rattle.reader_laws.proofs.Soundness.HadItems.{one_index_host, one_pack_host}
 use Rattle.reader_laws.proofs.Containers.Scanning.{Owner, all_placed}
 

@@ -16,8 +16,8 @@ use Rattle.store_laws.specs.There.{ListsFolder}
 use Rattle.store_laws.proofs.Facts.{ordered_differ}
 use Rattle.mount_model.specs.Paths.{Name, index_path}
 use Rattle.flat_format.specs.declared.flat.Flat.{Flat}
-use Rattle.flow.specs.declared.stuck.Stuck.{Stuck}
-use Rattle.flow.specs.Listed.{file_in}
+use Rattle.mount_model.specs.declared.stuck.Stuck.{Stuck}
+use Rattle.mount_model.specs.FlowListed.{file_in}
 use Rattle.index_reader.specs.declared.listing.Listing.{Listing}
 use Rattle.index_reader.specs.declared.scanning.Scan.{Scan}
 use Rattle.index_reader.specs.Items.{hostdir_item}
@@ -25,9 +25,9 @@ use Rattle.index_reader.specs.Opening.{has_owner, is_of_host, listed, listing_of
 use Rattle.index_reader.specs.Scanning.{has_writer, owner, scanned, taken_all, unless_foreign}
 use Rattle.index_reader.specs.Searching.{has_name}
 use Rattle.index_reader.proofs.Facts.{hostdir_item-here}
-use Rattle.gathering.specs.Listing.{IsIndexName}
-use Rattle.gathering.specs.Moments.{Moment, IsSoundAt, Dropping, Grows, HadItem}
-use Rattle.gathering.proofs.Facts.{All-weaker, all_named, file_named, file_of, index_name, its_hostdir, named_dropping, named_file, not_top}
+use Rattle.reader_laws.specs.GatheringListing.{IsIndexName}
+use Rattle.reader_laws.specs.Moments.{Moment, IsSoundAt, Dropping, Grows, HadItem}
+use Rattle.reader_laws.proofs.Gathered.Facts.{All-weaker, all_named, file_named, file_of, index_name, its_hostdir, named_dropping, named_file, not_top}
 use Rattle.reader_laws.proofs.Soundness.HadItems.{HasIt, has_item, had_item, one_index_host, pack_has_index}
 use Rattle.reader_laws.proofs.Soundness.KnownNames.{hostdir_known, none_foreign}
 use Rattle.reader_laws.proofs.Soundness.LookEnds.{HasContainer}

@@ -7,8 +7,8 @@ use Rattle.mount_model.specs.declared.reply.Reply.{Reply}
 use Rattle.mount_model.specs.declared.reply.Reply.TheVariants.{Fault, NoMemory, Refused, Damaged, Room, Entered, Floored, Done, Wrote, Flushed, Synced}
 use Rattle.mount_model.specs.Paths.{Name}
 use Rattle.mount_model.specs.Replies.{IsTrouble, refused, damaged, fault, no_memory}
-use Rattle.flow.specs.declared.stuck.Stuck.{Stuck}
-use Rattle.story.specs.Program.{Program, done, ask, followed_by}
+use Rattle.mount_model.specs.declared.stuck.Stuck.{Stuck}
+use Rattle.mount_model.specs.Program.{Program, done, ask, followed_by}
 use Rattle.writer_flow.specs.declared.handle.WriterHandle.{WriterHandle}
 use Rattle.writer_flow.specs.declared.handle.WriterOut.{WriterOut}
 use Rattle.writer_flow.specs.Handle.{flushed_of, closing_of}
@@ -17,7 +17,7 @@ use Rattle.writer_flow.specs.Writing.{if_flushed, flush_then, if_wrote, writes, 
 use Rattle.writer_flow.specs.Syncing.{if_synced, syncs_index, flushes_and_syncs, if_log_synced, sync_program}
 use Rattle.writer_flow.specs.Closing.{if_left, exits, if_put, puts_meta, if_kept, after_sync, close_from, close_program}
 use Rattle.mount_model.specs.Replies.{FitsCall}
-use Rattle.flow.specs.declared.stuck.Stuck.TheVariants as stuck
+use Rattle.mount_model.specs.declared.stuck.Stuck.TheVariants as stuck
 
 -- Whatever its calls are answered, its result is one of these, unless a fault was answered. Want of memory ends it.
 abbrev pub EndsIn : {R : Type 0} → (R → Bool) → Program Call Reply R → Type 0

@@ -5,9 +5,9 @@ use Rattle.plfs_types.specs.declared.entries.Trunc.{Trunc}
 use Rattle.plfs_types.specs.declared.names.Path.{Path}
 use Rattle.store_api.specs.declared.step.Answer.{Answer}
 use Rattle.store_api.specs.declared.step.Answer.TheVariants as answer
-use Rattle.flow.specs.declared.stuck.Stuck.{Stuck}
-use Rattle.flow.specs.declared.stuck.Stuck.TheVariants as stuck
-use Rattle.story.specs.Program.{done, ask, followed_by}
+use Rattle.mount_model.specs.declared.stuck.Stuck.{Stuck}
+use Rattle.mount_model.specs.declared.stuck.Stuck.TheVariants as stuck
+use Rattle.mount_model.specs.Program.{done, ask, followed_by}
 use Rattle.mount_model.specs.declared.call.Call.TheVariants.{Bury, Find, Hold, Inspect, Look, Mark, Mend, MendHold, MendMeta, Move, Release, SyncDropping}
 use Rattle.mount_model.specs.declared.call.Look.{Look as Sight}
 use Rattle.mount_model.specs.declared.call.Look.TheVariants.{Length, Read, List as ListFolder}
@@ -18,12 +18,12 @@ use Rattle.mount_model.specs.Paths.{Name, index_path, log_path, metadata, truncs
 use Rattle.container_layout.specs.Paths.{openhosts}
 use Rattle.mount_model.specs.Replies.{IsTrouble}
 use Rattle.mount_model.specs.Shown.{MayShow}
-use Rattle.flow.specs.declared.names.Metadata.{Metadata}
-use Rattle.flow.specs.declared.names.OpenEntry.{OpenEntry}
-use Rattle.flow.specs.Listed.{file_in, or_trouble, told_by}
-use Rattle.flow.specs.Names.{meta_in, open_in, trunc_in}
-use Rattle.flow.specs.Order.{entries_by_writer}
-use Rattle.flow.specs.Replies.{Tries, bytes_in, damage, failure, given, is_no_folder, length_in, on_ok, room_in, trouble}
+use Rattle.mount_model.specs.declared.names.Metadata.{Metadata}
+use Rattle.mount_model.specs.declared.names.OpenEntry.{OpenEntry}
+use Rattle.mount_model.specs.FlowListed.{file_in, or_trouble, told_by}
+use Rattle.mount_model.specs.Names.{meta_in, open_in, trunc_in}
+use Rattle.mount_model.specs.Order.{entries_by_writer}
+use Rattle.mount_model.specs.FlowReplies.{Tries, bytes_in, damage, failure, given, is_no_folder, length_in, on_ok, room_in, trouble}
 use Rattle.trunc_rename.specs.Holding.{holder_in, holds, lets_go, or_lets_go, released}
 use Rattle.trunc_rename.specs.Tops.{metadata_top, truncs_top}
 use Rattle.trunc_rename.specs.Truncating.{lists_metadata as lists_metadata_top, lists_truncs as lists_truncs_top, marked, marks, truncate_program}
@@ -34,11 +34,11 @@ use Rattle.attr_flow.specs.Listings.{has_entry, is_open, metadata_named, truncs_
 use Rattle.torn_tail.specs.declared.recovering.Recovered.{Recovered}
 use Rattle.torn_tail.specs.Words.{Run}
 use Rattle.index_entry.specs.Spelling.{entry_in}
-use Rattle.flow.specs.Entries.{is_next}
+use Rattle.mount_model.specs.Entries.{is_next}
 use Rattle.torn_tail.specs.Entries.{checked, longer, looked, no_entries}
 use Rattle.torn_tail.specs.Recovering.{entries_named, hold_mended, lists_open as lists_writers, mends_hold, noted, nothing, recover_program, recovers, recovers_listed}
 use Rattle.torn_tail.specs.Writers.{buries, found, if_checked, if_done, if_synced, is_alive, keeps, measures_index, measures_log, mends, mends_meta, not_done, reads, reads_left, reads_then, syncs_index, syncs_log, writer_program}
-use Rattle.flow.specs.Entries.{next_read, reads_of}
+use Rattle.mount_model.specs.Entries.{next_read, reads_of}
 use Rattle.actor_core.specs.Names.{names_program, names_told}
 use Rattle.run_core.proofs.Faults.EndsWell.{EndsIn, GoesWell, by_reply, is_no_fault, then_well}
 

@@ -1,8 +1,8 @@
 -- The shares and the truncates of a reader that its actor opens by itself end in a fault only where one was answered.
 use Rattle.std.proofs.Common.{ℕ, ◌-◌, List, [], ◌∷◌, ◌++◌, map, Ok, refl}
 use Rattle.std.specs.List.{range_with_len}
-use Rattle.flow.specs.Replies.{Tries}
-use Rattle.story.specs.Program.{done}
+use Rattle.mount_model.specs.FlowReplies.{Tries}
+use Rattle.mount_model.specs.Program.{done}
 use Rattle.index_reader.specs.declared.listing.Listing.{Listing}
 use Rattle.index_reader.specs.declared.sharing.Share.{Share}
 use Rattle.index_reader.specs.Truncs.{trunc_program}

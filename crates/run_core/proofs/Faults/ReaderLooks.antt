@@ -13,11 +13,11 @@ use Rattle.index_entry.specs.Spelling.{entry_in, number_in as number_at}
 use Rattle.index_pack.specs.declared.trouble.TheConstants.{HEAD_SIZE}
 use Rattle.flat_format.specs.declared.flat.Flat.{Flat}
 use Rattle.read_plan.specs.declared.part.Part.{Part}
-use Rattle.flow.specs.declared.stuck.Stuck.{Stuck}
-use Rattle.flow.specs.Replies.{Tries, on_ok, names_in, bytes_in, damage}
-use Rattle.flow.specs.Entries.{is_next}
-use Rattle.flow.specs.Listed.{file_in}
-use Rattle.story.specs.Program.{done, followed_by}
+use Rattle.mount_model.specs.declared.stuck.Stuck.{Stuck}
+use Rattle.mount_model.specs.FlowReplies.{Tries, on_ok, names_in, bytes_in, damage}
+use Rattle.mount_model.specs.Entries.{is_next}
+use Rattle.mount_model.specs.FlowListed.{file_in}
+use Rattle.mount_model.specs.Program.{done, followed_by}
 use Rattle.mount_model.specs.declared.call.Look.TheVariants.{Top, Length, Read, List as ListFolder}
 use Rattle.mount_model.specs.Paths.{Name, flats, metadata, truncs, flat_path, index_path, log_path}
 use Rattle.index_reader.specs.declared.entries.Tail.{Tail}
@@ -41,10 +41,10 @@ use Rattle.index_reader.specs.Scanning.{foreign_in, has_writer, nothing_found, s
 use Rattle.index_reader.specs.Searching.{has_name}
 use Rattle.index_reader.specs.Sharing.{added, dropping_program, gathers, nothing, share_program}
 use Rattle.index_reader.specs.Tails.{if_checked, if_logged, if_told, log_then, looked, reads, tail_program}
-use Rattle.flow.specs.Entries.{next_read, reads_of}
+use Rattle.mount_model.specs.Entries.{next_read, reads_of}
 use Rattle.index_reader.specs.Tops.{access, foreign_at_top, required, shown, top_shows}
 use Rattle.container_layout.specs.Paths.{hostdirs}
-use Rattle.flow.specs.Names.{trunc_in}
+use Rattle.mount_model.specs.Names.{trunc_in}
 use Rattle.index_reader.specs.Truncs.{if_trunc, inserted, trunc_program, truncs_of, truncs_path}
 use Rattle.run_core.proofs.Faults.Looking.{IsFine, Looks, either_of, either_looks, on_ok_looks, then_looks, look_looks, find_looks}
 

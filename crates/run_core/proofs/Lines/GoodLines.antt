@@ -4,13 +4,13 @@ use Rattle.std.specs.Prelude.{⊤, MatchBool, set, slice_get, Result}
 use Rattle.mount_model.specs.declared.call.Ask.{Ask}
 use Rattle.mount_model.specs.declared.reply.Reply.{Reply}
 use Rattle.mount_model.specs.History.{Event}
-use Rattle.flow.specs.declared.stuck.Stuck.{Stuck}
+use Rattle.mount_model.specs.declared.stuck.Stuck.{Stuck}
 use Rattle.index_reader.specs.declared.sharing.Share.{Share}
-use Rattle.story.specs.Process.{ends, pauses, tells, asks, shares}
-use Rattle.story.specs.Calls.{AreCallsOfEach}
-use Rattle.story.specs.Turns.{TakesTurn, Finishes}
-use Rattle.story.specs.Performers.{Performer, performer, paused}
-use Rattle.story.specs.InTurns.{WrittenOrder, InTurn, AllInTurn, ToEnd, AllToEnd, InTurns}
+use Rattle.mount_model.specs.Process.{ends, pauses, tells, asks, shares}
+use Rattle.mount_model.specs.Calls.{AreCallsOfEach}
+use Rattle.mount_model.specs.Turns.{TakesTurn, Finishes}
+use Rattle.mount_model.specs.Performers.{Performer, performer, paused}
+use Rattle.mount_model.specs.InTurns.{WrittenOrder, InTurn, AllInTurn, ToEnd, AllToEnd, InTurns}
 use Rattle.script_lang.specs.declared.line.Line.{Line}
 use Rattle.script_lang.specs.declared.line.Outcome.{Outcome}
 use Rattle.script_lang.specs.declared.script.Statement.{Statement}

@@ -6,13 +6,13 @@ use Rattle.std.proofs.lemmas.List.Elements.{All-nil, All-cons}
 use Rattle.mount_model.specs.declared.call.Ask.{Ask}
 use Rattle.mount_model.specs.declared.reply.Reply.{Reply}
 use Rattle.mount_model.specs.State.{State}
-use Rattle.flow.specs.declared.stuck.Stuck.{Stuck}
+use Rattle.mount_model.specs.declared.stuck.Stuck.{Stuck}
 use Rattle.index_reader.specs.declared.sharing.Share.{Share}
-use Rattle.story.specs.MakesCalls.{MakesCalls}
-use Rattle.story.specs.OneThread.{Differ}
-use Rattle.story.specs.Performers.{Performer, NoneAhead, numbers_of, left_of, told_at, told_by_each}
-use Rattle.story.specs.InTurns.{statements_of}
-use Rattle.story.proofs.Facts.{turns_made, turns_tell}
+use Rattle.mount_model.specs.MakesCalls.{MakesCalls}
+use Rattle.mount_model.specs.OneThread.{Differ}
+use Rattle.mount_model.specs.Performers.{Performer, NoneAhead, numbers_of, left_of, told_at, told_by_each}
+use Rattle.mount_model.specs.InTurns.{statements_of}
+use Rattle.mount_model.proofs.Stories.Facts.{turns_made, turns_tell}
 use Rattle.script_lang.specs.declared.line.Line.{Line}
 use Rattle.script_lang.specs.declared.script.ActorDecl.{ActorDecl}
 use Rattle.script_lang.specs.declared.script.Numbered.{Numbered}

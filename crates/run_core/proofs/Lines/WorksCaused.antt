@@ -2,18 +2,18 @@
 use Rattle.std.proofs.Common.{◌≡◌, ◌≢◌, ◌⊎◌, inl, inr, ℕ, ◌-◌, List, [], ◌∷◌, map, length, Bool, true, false, Option, Some, None, Result, Ok, Err, refl, ap, subst}
 use Rattle.std.specs.Prelude.{⊤, if◌then◌else◌, ◌==◌, MatchOption}
 use Rattle.std.specs.List.{range_with_len}
-use Rattle.story.specs.Program.{Program, done, ask}
-use Rattle.story.specs.Calls.{AreCallsOf, AreCallsOfEach}
-use Rattle.flow.specs.Running.{asking, unbroken}
+use Rattle.mount_model.specs.Program.{Program, done, ask}
+use Rattle.mount_model.specs.Calls.{AreCallsOf, AreCallsOfEach}
+use Rattle.mount_model.specs.Running.{asking, unbroken}
 use Rattle.mount_model.specs.History.{Event}
 use Rattle.mount_model.specs.declared.call.Ask.{Ask}
 use Rattle.mount_model.specs.declared.call.Call.{Call}
 use Rattle.mount_model.specs.declared.reply.Reply.{Reply}
 use Rattle.mount_model.specs.declared.reply.Reply.TheVariants.{Fault as Faulted, NoMemory, Stopped as WasStopped}
 use Rattle.mount_model.specs.Replies.{FitsCall, FitsAsk}
-use Rattle.flow.specs.declared.stuck.Stuck.{Stuck}
-use Rattle.flow.specs.declared.stuck.Stuck.TheVariants as stuck
-use Rattle.flow.specs.Replies.{on_ok}
+use Rattle.mount_model.specs.declared.stuck.Stuck.{Stuck}
+use Rattle.mount_model.specs.declared.stuck.Stuck.TheVariants as stuck
+use Rattle.mount_model.specs.FlowReplies.{on_ok}
 use Rattle.read_plan.specs.Plan.{plan_of}
 use Rattle.writer_flow.specs.declared.handle.WriterHandle.{WriterHandle}
 use Rattle.writer_flow.specs.Opening.{open_program}

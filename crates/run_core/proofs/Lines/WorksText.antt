@@ -2,16 +2,16 @@
 use Rattle.std.proofs.Common.{ℕ, List, [], length, Bool, true, false, Option, Some, None, Result, Ok, Err, ◌∷◌}
 use Rattle.std.specs.Prelude.{⊤, if◌then◌else◌, ◌==◌}
 use Rattle.std.proofs.lemmas.List.Elements.{All-nil, All-cons}
-use Rattle.story.specs.Program.{Program, done, ask}
+use Rattle.mount_model.specs.Program.{Program, done, ask}
 use Rattle.mount_model.specs.declared.call.Ask.{Ask}
 use Rattle.mount_model.specs.declared.call.Call.{Call}
 use Rattle.mount_model.specs.declared.reply.Reply.{Reply}
 use Rattle.mount_model.specs.declared.reply.Reply.TheVariants.{Greeted, Room, Rooms, Looked, Entered, Floored, Done, Wrote, Flushed, Synced, Holding, Marked, Started, Mended, Stopped as WasStopped, Refused, Damaged, Fault, NoMemory}
 use Rattle.mount_model.specs.State.{State}
 use Rattle.mount_model.specs.History.{Event}
-use Rattle.flow.specs.declared.stuck.Stuck.{Stuck}
-use Rattle.flow.specs.declared.stuck.Stuck.TheVariants as stuck
-use Rattle.flow.specs.Replies.{on_ok}
+use Rattle.mount_model.specs.declared.stuck.Stuck.{Stuck}
+use Rattle.mount_model.specs.declared.stuck.Stuck.TheVariants as stuck
+use Rattle.mount_model.specs.FlowReplies.{on_ok}
 use Rattle.writer_flow.specs.declared.handle.WriterHandle.{WriterHandle}
 use Rattle.read_plan.specs.Plan.{plan_of}
 use Rattle.writer_flow.specs.Opening.{open_program}

@@ -5,8 +5,8 @@ use Rattle.mount_model.specs.declared.reply.Reply.{Reply}
 use Rattle.mount_model.specs.declared.reply.Reply.TheVariants.{NoMemory}
 use Rattle.mount_model.specs.State.{State}
 use Rattle.mount_model.specs.History.{Event}
-use Rattle.story.specs.Process.{ends, pauses, tells, asks, shares}
-use Rattle.story.specs.Turns.{Finishes}
+use Rattle.mount_model.specs.Process.{ends, pauses, tells, asks, shares}
+use Rattle.mount_model.specs.Turns.{Finishes}
 use Rattle.script_lang.specs.declared.line.Line.{Line}
 use Rattle.script_lang.specs.declared.script.Numbered.{Numbered}
 use Rattle.actor_core.specs.declared.kept.Kept.{Kept}

@@ -6,11 +6,11 @@ use Rattle.mount_model.specs.declared.call.Ask.{Ask}
 use Rattle.mount_model.specs.declared.reply.Reply.{Reply}
 use Rattle.mount_model.specs.State.{State}
 use Rattle.mount_model.specs.History.{Event}
-use Rattle.flow.specs.declared.stuck.Stuck.{Stuck}
+use Rattle.mount_model.specs.declared.stuck.Stuck.{Stuck}
 use Rattle.index_reader.specs.declared.sharing.Share.{Share}
-use Rattle.story.specs.Process.{ends, pauses}
-use Rattle.story.specs.Performers.{Performer, performer, paused}
-use Rattle.story.specs.InTurns.{AllToEnd}
+use Rattle.mount_model.specs.Process.{ends, pauses}
+use Rattle.mount_model.specs.Performers.{Performer, performer, paused}
+use Rattle.mount_model.specs.InTurns.{AllToEnd}
 use Rattle.script_lang.specs.declared.line.Line.{Line}
 use Rattle.script_lang.specs.declared.script.ActorDecl.{ActorDecl}
 use Rattle.script_lang.specs.declared.script.Numbered.{Numbered}

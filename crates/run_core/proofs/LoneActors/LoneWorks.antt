@@ -1,11 +1,11 @@
 -- Opening a reader and reading from it come to their lines, and owe nothing of the mount's state.
 use Rattle.std.proofs.Common.{◌≡◌, ℕ, ◌≤◌, List, [], Bool, true, false, Option, Some, None, Result, Ok, Err, refl}
 use Rattle.std.specs.Prelude.{⊤, if◌then◌else◌}
-use Rattle.story.specs.Program.{Program, done, ask}
-use Rattle.story.specs.Process.{ends, pauses, tells, asks, shares}
+use Rattle.mount_model.specs.Program.{Program, done, ask}
+use Rattle.mount_model.specs.Process.{ends, pauses, tells, asks, shares}
 use Rattle.mount_model.specs.declared.call.Call.{Call}
 use Rattle.mount_model.specs.declared.reply.Reply.{Reply}
-use Rattle.flow.specs.declared.stuck.Stuck.{Stuck}
+use Rattle.mount_model.specs.declared.stuck.Stuck.{Stuck}
 use Rattle.read_plan.specs.Plan.{plan_of}
 use Rattle.index_reader.specs.Opening.{open_read_program}
 use Rattle.index_reader.specs.Reading.{read_program}
@@ -15,7 +15,7 @@ use Rattle.script_lang.specs.declared.script.Statement.{Statement}
 use Rattle.script_lang.specs.declared.script.Statement.TheVariants.{Ropen, Read}
 use Rattle.actor_core.specs.declared.actor.Actor.{Actor}
 use Rattle.actor_core.specs.declared.actor.State.{State}
-use Rattle.actor_core.specs.declared.actor.State.TheVariants.{Idle, Told, Ready, Asked, HandedOut, Greeting, Greeted}
+use Rattle.actor_core.specs.declared.actor.State.TheVariants.{Idle, Told, Working, HandedOut, Greeting, Greeted}
 use Rattle.actor_core.specs.declared.kept.Kept.{Kept}
 use Rattle.actor_core.specs.declared.kept.Stop.{Stop}
 use Rattle.actor_core.specs.Endings.{gone, stopped, read_from}
@@ -111,8 +111,8 @@ not_out number (waits k) kept is = cc
 keeps_so : (number : ℕ) (own : Kept) (stop : Option Stop) (state : State) (kept : Kept) → state_progress number own stop state ≡ idle kept → own ≡ kept
 keeps_so number own stop Idle kept is = cc
 keeps_so number own stop (Told line) kept is = cc
-keeps_so number own stop (Ready doing) kept is = absurd (not_busy number (doing_ready own stop doing) kept is)
-keeps_so number own stop (Asked doing) kept is = absurd (not_busy number (doing_asked own stop doing) kept is)
+keeps_so number own stop (Working doing false) kept is = absurd (not_busy number (doing_ready own stop doing) kept is)
+keeps_so number own stop (Working doing true) kept is = absurd (not_busy number (doing_asked own stop doing) kept is)
 keeps_so number own stop (HandedOut listed) kept is = cc
 keeps_so number own stop (Greeting doing) kept is = absurd (not_greeting number (doing_ready own stop doing) kept is)
 keeps_so number own stop (Greeted doing) kept is = absurd (not_out number (doing_ready own stop doing) kept is)

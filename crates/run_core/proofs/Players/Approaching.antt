@@ -6,10 +6,10 @@ use Rattle.mount_model.specs.declared.reply.Reply.{Reply}
 use Rattle.mount_model.specs.declared.reply.Reply.TheVariants.{NoMemory}
 use Rattle.mount_model.specs.State.{State}
 use Rattle.mount_model.specs.History.{Event}
-use Rattle.story.specs.Process.{pauses}
-use Rattle.story.specs.Turns.{Finishes}
-use Rattle.story.specs.Performers.{performer}
-use Rattle.story.specs.InTurns.{ToEnd}
+use Rattle.mount_model.specs.Process.{pauses}
+use Rattle.mount_model.specs.Turns.{Finishes}
+use Rattle.mount_model.specs.Performers.{performer}
+use Rattle.mount_model.specs.InTurns.{ToEnd}
 use Rattle.script_lang.specs.declared.line.Line.{Line}
 use Rattle.script_lang.specs.declared.script.Numbered.{Numbered}
 use Rattle.actor_core.specs.declared.kept.Kept.{Kept}

@@ -6,16 +6,16 @@ use Rattle.mount_model.specs.declared.reply.Reply.{Reply}
 use Rattle.mount_model.specs.declared.reply.Reply.TheVariants.{NoMemory}
 use Rattle.mount_model.specs.State.{State}
 use Rattle.mount_model.specs.History.{Event}
-use Rattle.story.specs.Process.{ends, pauses, tells, asks, shares}
-use Rattle.story.specs.Performers.{performer}
-use Rattle.story.specs.Turns.{TakesTurn, Finishes}
+use Rattle.mount_model.specs.Process.{ends, pauses, tells, asks, shares}
+use Rattle.mount_model.specs.Performers.{performer}
+use Rattle.mount_model.specs.Turns.{TakesTurn, Finishes}
 use Rattle.script_lang.specs.declared.line.Line.{Line}
 use Rattle.script_lang.specs.declared.script.Numbered.{Numbered}
 use Rattle.actor_core.specs.declared.kept.Kept.{Kept}
 use Rattle.actor_core.specs.Work.{Work}
 use Rattle.actor_core.specs.Progress.{Progress, idle, going, asked, handed, told, IsIdle, line_of}
 use Rattle.actor_core.specs.Standings.{progress_of}
-use Rattle.statement_laws.specs.Coming.{ComesToLine}
+use Rattle.run_core.specs.Coming.{ComesToLine}
 use Rattle.share_workers.proofs.Facts.{before_last, none_refused, refused_last}
 use Rattle.run_core.specs.declared.player.Player.{Player}
 use Rattle.run_core.specs.Course.{Course, one_by_one, then_line}

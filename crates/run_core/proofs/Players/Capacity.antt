@@ -1,10 +1,10 @@
 -- An actor's capacity is in its range.
-use Rattle.std.proofs.Common.{◌≡◌, ◌≤◌, ℕ, refl, sym, ap, ◌∙◌, subst}
+use Rattle.std.proofs.Common.{◌≡◌, ◌≤◌, ℕ, refl, sym, ap, ◌∙◌, subst, true, false}
 use Rattle.actor_core.specs.declared.kept.Kept.{Kept}
 use Rattle.actor_core.specs.declared.kept.Stop.{Stop}
 use Rattle.actor_core.specs.declared.actor.Actor.{Actor}
 use Rattle.actor_core.specs.declared.actor.State.{State}
-use Rattle.actor_core.specs.declared.actor.State.TheVariants.{Idle, Told, Ready, Asked, HandedOut, Greeting, Greeted}
+use Rattle.actor_core.specs.declared.actor.State.TheVariants.{Idle, Told, Working, HandedOut, Greeting, Greeted}
 use Rattle.actor_core.specs.Progress.{Progress, idle, going, asked, told}
 use Rattle.actor_core.specs.Standings.{Underway, goes, waits, busy, greeting, greeting_out, doing_ready, doing_asked, state_progress, progress_of}
 use Rattle.std.specs.Prelude.{Option}
@@ -29,8 +29,8 @@ out_keeps kept number (waits k) = refl
 keeps : (number : ℕ) (kept : Kept) (stop : Option Stop) (state : State) → kept_or kept (state_progress number kept stop state) ≡ kept
 keeps number kept stop Idle = refl
 keeps number kept stop (Told line) = refl
-keeps number kept stop (Ready doing) = busy_keeps kept number (doing_ready kept stop doing)
-keeps number kept stop (Asked doing) = busy_keeps kept number (doing_asked kept stop doing)
+keeps number kept stop (Working doing false) = busy_keeps kept number (doing_ready kept stop doing)
+keeps number kept stop (Working doing true) = busy_keeps kept number (doing_asked kept stop doing)
 keeps number kept stop (HandedOut listed) = refl
 keeps number kept stop (Greeting doing) = greeting_keeps kept number (doing_ready kept stop doing)
 keeps number kept stop (Greeted doing) = out_keeps kept number (doing_ready kept stop doing)

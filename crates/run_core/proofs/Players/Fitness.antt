@@ -9,8 +9,8 @@ use Rattle.mount_model.specs.Step.{IsStep}
 use Rattle.mount_sound.specs.Owed.{IsLawful, Permits}
 use Rattle.mount_sound.specs.Sound.{IsFine}
 use Rattle.mount_sound.proofs.Facts.{step_fine}
-use Rattle.story.specs.Safe.{AreOthers, IsSafeProcess}
-use Rattle.story.proofs.Facts.{process_lasts}
+use Rattle.mount_model.specs.Safe.{AreOthers, IsSafeProcess}
+use Rattle.mount_model.proofs.Stories.Facts.{process_lasts}
 use Rattle.script_lang.specs.declared.script.Numbered.{Numbered}
 use Rattle.actor_core.specs.declared.kept.Kept.{Kept}
 use Rattle.actor_core.specs.Progress.{Progress, idle, going, asked, handed, told}

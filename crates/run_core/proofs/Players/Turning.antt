@@ -7,8 +7,8 @@ use Rattle.mount_model.specs.declared.reply.Reply.{Reply}
 use Rattle.mount_model.specs.declared.reply.Reply.TheVariants.{NoMemory}
 use Rattle.mount_model.specs.State.{State}
 use Rattle.mount_model.specs.History.{Event}
-use Rattle.story.specs.Process.{pauses}
-use Rattle.story.specs.Turns.{TakesTurn}
+use Rattle.mount_model.specs.Process.{pauses}
+use Rattle.mount_model.specs.Turns.{TakesTurn}
 use Rattle.script_lang.specs.declared.line.Line.{Line}
 use Rattle.script_lang.specs.declared.script.Numbered.{Numbered}
 use Rattle.actor_core.specs.declared.kept.Kept.{Kept}
@@ -27,7 +27,7 @@ use Rattle.share_workers.proofs.Facts.{memory_both}
 use Rattle.std.specs.Option.{option_to_list}
 use Rattle.std.proofs.lemmas.List.Elements.{All-tail}
 use Rattle.actor_core.specs.Statements.{work_of}
-use Rattle.statement_laws.proofs.Facts.{comes_to_line, work_safe}
+use Rattle.run_core.proofs.Statements.Facts.{comes_to_line, work_safe}
 use Rattle.run_core.proofs.Players.Capacity.{capacity}
 use Rattle.run_core.proofs.Players.Fitness.{idle_fit}
 use Rattle.run_core.proofs.Players.Works.{AsksNext, TellsNext, rests, says, no_call, idle_kept}

@@ -7,9 +7,9 @@ use Rattle.mount_model.specs.History.{Event}
 use Rattle.mount_model.specs.State.{State}
 use Rattle.mount_model.specs.Step.{IsStep}
 use Rattle.mount_sound.specs.Owed.{May, Permits}
-use Rattle.story.specs.Process.{ends, pauses, tells, asks, shares}
-use Rattle.story.specs.Safe.{IsSafeProcess}
-use Rattle.story.specs.Turns.{TakesTurn, Finishes}
+use Rattle.mount_model.specs.Process.{ends, pauses, tells, asks, shares}
+use Rattle.mount_model.specs.Safe.{IsSafeProcess}
+use Rattle.mount_model.specs.Turns.{TakesTurn, Finishes}
 use Rattle.script_lang.specs.declared.line.Line.{Line}
 use Rattle.script_lang.specs.declared.script.Numbered.{Numbered}
 use Rattle.actor_core.specs.declared.kept.Kept.{Kept}
@@ -17,7 +17,7 @@ use Rattle.actor_core.specs.Work.{Work}
 use Rattle.actor_core.specs.Progress.{Progress, idle, going, asked, handed, told, next_ask, ask_of, given, waiting_line, line_taken, line_of, IsIdle, IsReady, IsAsked}
 use Rattle.run_core.specs.Course.{Course, one_by_one}
 use Rattle.run_core.specs.Written.{is_greeting}
-use Rattle.statement_laws.specs.Coming.{ComesToLine}
+use Rattle.run_core.specs.Coming.{ComesToLine}
 use Rattle.run_core.specs.Players.{IsSafeProgress, course_at, in_progress}
 
 pub same_some : {X : Type 0} (a b : X) → Some a ≡ Some b → a ≡ b

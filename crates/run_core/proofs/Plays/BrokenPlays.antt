@@ -4,9 +4,9 @@ use Rattle.std.specs.Prelude.{All, Some, slice_get}
 use Rattle.std.proofs.lemmas.List.{replicate-append-replicate, take-append-drop}
 use Rattle.mount_model.specs.State.{State}
 use Rattle.mount_model.specs.History.{Event}
-use Rattle.story.specs.Process.{ends, pauses}
-use Rattle.story.specs.Performers.{performer}
-use Rattle.story.specs.InTurns.{AllInTurn, WrittenOrder}
+use Rattle.mount_model.specs.Process.{ends, pauses}
+use Rattle.mount_model.specs.Performers.{performer}
+use Rattle.mount_model.specs.InTurns.{AllInTurn, WrittenOrder}
 use Rattle.script_lang.specs.declared.line.Line.{Line}
 use Rattle.script_lang.specs.declared.script.ActorDecl.{ActorDecl}
 use Rattle.script_lang.specs.declared.script.Numbered.{Numbered}

@@ -7,8 +7,8 @@ use Rattle.mount_model.specs.State.{State}
 use Rattle.script_lang.specs.declared.script.Numbered.{Numbered}
 use Rattle.script_lang.specs.declared.script.Phase.{Phase}
 use Rattle.script_lang.specs.Ranges.{FitsNumbered}
-use Rattle.story.specs.Process.{pauses}
-use Rattle.story.specs.Performers.{performer, paused}
+use Rattle.mount_model.specs.Process.{pauses}
+use Rattle.mount_model.specs.Performers.{performer, paused}
 use Rattle.actor_core.specs.declared.kept.Kept.{Kept}
 use Rattle.actor_core.specs.Progress.{Progress, idle, going, asked, handed, told}
 use Rattle.actor_core.specs.Standings.{progress_of}

@@ -6,11 +6,11 @@ use Rattle.mount_model.specs.State.{State}
 use Rattle.mount_model.specs.History.{Event}
 use Rattle.mount_model.specs.declared.call.Ask.{Ask}
 use Rattle.mount_model.specs.declared.reply.Reply.{Reply}
-use Rattle.flow.specs.declared.stuck.Stuck.{Stuck}
+use Rattle.mount_model.specs.declared.stuck.Stuck.{Stuck}
 use Rattle.index_reader.specs.declared.sharing.Share.{Share}
 use Rattle.script_lang.specs.declared.line.Line.{Line}
-use Rattle.story.specs.Performers.{Performer, performer}
-use Rattle.story.specs.InTurns.{InTurn, AllInTurn}
+use Rattle.mount_model.specs.Performers.{Performer, performer}
+use Rattle.mount_model.specs.InTurns.{InTurn, AllInTurn}
 use Rattle.script_lang.specs.declared.script.Phase.{Phase}
 use Rattle.script_lang.specs.declared.script.Turned.{Turned}
 use Rattle.run_core.specs.declared.player.Player.{Player}

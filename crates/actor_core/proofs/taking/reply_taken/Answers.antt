@@ -1,5 +1,5 @@
 use Rattle.std.proofs.Common.{refl, subst}
-use Rattle.flow.specs.Standing.{rest_of}
+use Rattle.mount_model.specs.Standing.{rest_of}
 use Rattle.writer_flow.specs.OpeningStages.{open_standing}
 use Rattle.writer_flow.specs.WritingStages.{write_standing}
 use Rattle.writer_flow.specs.SyncingStages.{sync_standing}

@@ -1,7 +1,7 @@
 use Rattle.trunc_rename.specs.TruncateStages.{truncate_standing}
 use Rattle.trunc_rename.specs.Truncating.{truncate_program}
-use Rattle.pack_core.proofs.Broken.{begins_so}
-use Rattle.pack_core.proofs.Freely.{fine_still, makes_so}
+use Rattle.lone_flow.proofs.SmallReads.Broken.{begins_so}
+use Rattle.lone_flow.proofs.SmallReads.Freely.{fine_still, makes_so}
 use Rattle.copy_core.proofs.Clearings.{may_cut}
 use Rattle.copy_core.proofs.clearing.cut_to_nothing.Goals as goal
 

@@ -1,5 +1,5 @@
-use Rattle.pack_core.proofs.Broken.{begins_so}
-use Rattle.pack_core.proofs.Freely.{asks_so, makes_so}
+use Rattle.lone_flow.proofs.SmallReads.Broken.{begins_so}
+use Rattle.lone_flow.proofs.SmallReads.Freely.{asks_so, makes_so}
 use Rattle.copy_core.specs.Clearing.{free_program}
 use Rattle.copy_core.proofs.Clearings.{free_free}
 use Rattle.copy_core.proofs.clearing.find_free.Goals as goal

@@ -1,8 +1,8 @@
 use Rattle.std.proofs.Common.{arith}
 use Rattle.writer_flow.specs.Opening.{open_program}
-use Rattle.pack_core.proofs.Broken.{begins_so}
-use Rattle.pack_core.proofs.Freely.{asks_so, makes_so}
-use Rattle.pack_puts.proofs.Facts.{open_free}
+use Rattle.lone_flow.proofs.SmallReads.Broken.{begins_so}
+use Rattle.lone_flow.proofs.SmallReads.Freely.{asks_so, makes_so}
+use Rattle.lone_flow.proofs.SmallPuts.Facts.{open_free}
 use Rattle.copy_core.proofs.copying.open_writer.Goals as goal
 
 pub drive_freely-requires : goal.drive_freely-requires

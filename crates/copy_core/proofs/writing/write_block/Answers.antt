@@ -1,5 +1,5 @@
-use Rattle.pack_core.proofs.Freely.{asks_so}
-use Rattle.pack_puts.proofs.Facts.{write_free}
+use Rattle.lone_flow.proofs.SmallReads.Freely.{asks_so}
+use Rattle.lone_flow.proofs.SmallPuts.Facts.{write_free}
 use Rattle.copy_core.proofs.writing.write_block.Goals as goal
 
 pub drive_freely-requires : goal.drive_freely-requires

@@ -9,7 +9,7 @@ pub returns-in_err-wrote-clause-broken_off : goal.returns-in_err-wrote-clause-br
 returns-in_err-wrote-clause-broken_off g c =
     let given = g.I.Source.given in
     on_err c.from_residual-in_err-wrote.result _
-    (to_write c.in_ok-piece.piece.bytes (c.in_err-wrote.ensures.some, no_longer c.in_ok-piece.piece.bytes c.in_ok-piece.piece.ending (given c.args.input.now) (given c.read_block.new.input) c.in_ok-piece.ensures.filled) c.in_ok-piece.ensures.filled.handed c.in_err-wrote.ensures.broken_off)
+    (to_write c.in_ok-piece.piece.bytes c.in_ok-piece.piece.ending (c.in_err-wrote.ensures.some, no_longer c.in_ok-piece.piece.bytes c.in_ok-piece.piece.ending (given c.args.input.now) (given c.read_block.new.input) c.in_ok-piece.ensures.filled) c.in_ok-piece.ensures.filled c.in_err-wrote.ensures.broken_off)
 
 pub returns-clause-steps : goal.returns-clause-steps
 returns-clause-steps g c =

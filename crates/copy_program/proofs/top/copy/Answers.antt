@@ -4,7 +4,7 @@ use Rattle.program_ends.specs.Ends.{Ends, ends_of}
 use Rattle.copy_program.specs.declared.words.CopyCommand.{CopyCommand}
 use Rattle.copy_program.specs.Course.{gets, puts}
 use Rattle.copy_program.specs.Words.{IsCopyCommand}
-use Rattle.copy_program.proofs.PutCourses.{put_leaves}
+use Rattle.put_program.proofs.PutCourses.{put_leaves, put_undamaged}
 use Rattle.copy_program.proofs.top.copy.Goals as goal
 
 pub returns-in-Put-clause-course : goal.returns-in-Put-clause-course
@@ -20,3 +20,8 @@ returns-in-Get-clause-course g c = gets c.in-Get.name (subst (λ (command : Copy
 
 pub returns-in_default-clause-course : goal.returns-in_default-clause-course
 returns-in_default-clause-course g c = c.refuse.ensures.course c.args.words.now (g.I.Source.given c.args.input.now) (g.C.Clock.times c.args.clock) c.in_default.ensures.none
+
+pub returns-in-Put-clause-undamaged : goal.returns-in-Put-clause-undamaged
+returns-in-Put-clause-undamaged g c =
+    let e : Ends = ends_of (g.C.Clock.times c.args.clock) (g.O.Sink.taking c.args.out.now) (g.O.Sink.taking c.put.new.out) (g.S.Store.stored c.args.store) (option_map g.S.Store.stored c.put.result.store) in
+    put_undamaged c.in-Put.name c.in-Put.host c.in-Put.over (g.I.Source.given c.args.input.now) (g.I.Source.given c.put.new.input) e c.put.result.status c.put.ensures

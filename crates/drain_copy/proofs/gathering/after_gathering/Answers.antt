@@ -1,6 +1,6 @@
 use Rattle.std.proofs.Common.{◌≡◌, ap, ◌∙◌}
 use Rattle.std.proofs.lemmas.Result.{IfOk-weaker}
-use Rattle.flow.specs.Replies.{Tries}
+use Rattle.mount_model.specs.FlowReplies.{Tries}
 use Rattle.drain_read.specs.Stages.{container_turn}
 use Rattle.drain_read.specs.declared.read.Contained.{Contained}
 use Rattle.drain_copy.specs.declared.stages.SourceStage.TheVariants.{Gathering}

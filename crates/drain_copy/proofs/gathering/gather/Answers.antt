@@ -1,6 +1,6 @@
 use Rattle.std.proofs.Common.{◌≡◌, ap, ◌∙◌}
 use Rattle.std.proofs.lemmas.Result.{IfOk-weaker}
-use Rattle.flow.specs.Replies.{Tries}
+use Rattle.mount_model.specs.FlowReplies.{Tries}
 use Rattle.drain_read.specs.declared.read.Contained.{Contained}
 use Rattle.drain_read.specs.declared.read.Known.{Known}
 use Rattle.drain_read.specs.Reading.{contained_program}

@@ -1,5 +1,5 @@
 use Rattle.std.proofs.Common.{ap, ◌∙◌}
-use Rattle.flow.specs.Replies.{Tries}
+use Rattle.mount_model.specs.FlowReplies.{Tries}
 use Rattle.mount_model.specs.declared.reply.Reply.{Reply}
 use Rattle.drain_read.specs.declared.held.Held.{Held}
 use Rattle.drain_read.specs.Stages.{held_rest}

@@ -1,5 +1,5 @@
 use Rattle.std.proofs.Common.{ℕ, Option, ap, sym, ◌∙◌}
-use Rattle.flow.specs.Replies.{Tries}
+use Rattle.mount_model.specs.FlowReplies.{Tries}
 use Rattle.drain_read.specs.declared.held.Held.{Held}
 use Rattle.drain_copy.specs.Asking.{at_target}
 use Rattle.drain_copy.specs.Draining.{if_held, reads_target}

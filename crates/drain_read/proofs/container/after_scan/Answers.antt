@@ -1,7 +1,7 @@
 use Rattle.std.proofs.Common.{◌≡◌, ap, ◌∙◌}
 use Rattle.std.proofs.lemmas.Result.{IfOk-weaker}
-use Rattle.story.specs.Program.{followed_by}
-use Rattle.flow.specs.Replies.{Tries, on_ok}
+use Rattle.mount_model.specs.Program.{followed_by}
+use Rattle.mount_model.specs.FlowReplies.{Tries, on_ok}
 use Rattle.index_reader.specs.declared.listing.Listing.{Listing as Listed}
 use Rattle.index_reader.specs.OpenStages.{after_open}
 use Rattle.drain_read.specs.declared.container.ContainerTurn.{ContainerTurn}

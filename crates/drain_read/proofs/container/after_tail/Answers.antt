@@ -1,6 +1,6 @@
 use Rattle.std.proofs.Common.{◌++◌, [], ◌∷◌, sym, ◌∙◌}
-use Rattle.flow.specs.Replies.{on_ok}
-use Rattle.flow.specs.Standing.{replied, rest_of}
+use Rattle.mount_model.specs.FlowReplies.{on_ok}
+use Rattle.mount_model.specs.Standing.{replied, rest_of}
 use Rattle.index_reader.specs.declared.entries.Tail.{Tail}
 use Rattle.index_reader.specs.Stages.{tail_standing}
 use Rattle.drain_read.specs.Reading.{read_as, reads_all}

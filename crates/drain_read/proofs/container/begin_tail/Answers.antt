@@ -1,7 +1,7 @@
 use Rattle.std.proofs.Common.{◌≡◌, ◌++◌, [], ◌∷◌, ap, sym, ◌∙◌}
 use Rattle.plfs_types.specs.declared.entries.Cover.{Cover}
-use Rattle.flow.specs.Replies.{on_ok}
-use Rattle.flow.specs.Standing.{ready}
+use Rattle.mount_model.specs.FlowReplies.{on_ok}
+use Rattle.mount_model.specs.Standing.{ready}
 use Rattle.index_reader.specs.declared.entries.Tail.{Tail}
 use Rattle.index_reader.specs.Covered.{cover_of}
 use Rattle.index_reader.specs.Packs.{no_tail}

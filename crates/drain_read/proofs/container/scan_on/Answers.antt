@@ -1,6 +1,6 @@
 use Rattle.std.proofs.Common.{refl, ap, sym, ◌∙◌}
-use Rattle.story.specs.Program.{followed_by}
-use Rattle.flow.specs.Replies.{on_ok}
+use Rattle.mount_model.specs.Program.{followed_by}
+use Rattle.mount_model.specs.FlowReplies.{on_ok}
 use Rattle.index_reader.specs.declared.opening.AfterOpen.{AfterOpen}
 use Rattle.index_reader.specs.OpenStages.{after_open, open_rest, open_standing}
 use Rattle.drain_read.specs.Reading.{reads_listed}

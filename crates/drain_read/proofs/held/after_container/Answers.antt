@@ -1,6 +1,6 @@
 use Rattle.std.proofs.Common.{ap, ◌∙◌}
-use Rattle.story.specs.Program.{followed_by}
-use Rattle.flow.specs.Replies.{Tries, on_ok}
+use Rattle.mount_model.specs.Program.{followed_by}
+use Rattle.mount_model.specs.FlowReplies.{Tries, on_ok}
 use Rattle.drain_read.specs.declared.read.Contained.{Contained}
 use Rattle.drain_read.specs.Holding.{lists_settled}
 use Rattle.drain_read.proofs.held.after_container.Goals as goal

@@ -1,6 +1,6 @@
 use Rattle.actor_core.specs.Names.{names_program}
-use Rattle.pack_core.proofs.Broken.{begins_so}
-use Rattle.pack_core.proofs.Freely.{asks_so, makes_so}
+use Rattle.lone_flow.proofs.SmallReads.Broken.{begins_so}
+use Rattle.lone_flow.proofs.SmallReads.Freely.{asks_so, makes_so}
 use Rattle.export_program.proofs.Looks.{names_free}
 use Rattle.export_program.proofs.naming.list_files.Goals as goal
 

@@ -1,7 +1,7 @@
 use Rattle.std.proofs.Common.{◌*◌}
 use Rattle.read_plan.specs.Plan.{plan_of}
-use Rattle.pack_core.proofs.Broken.{begins_so}
-use Rattle.pack_core.proofs.Freely.{asks_so, makes_so}
+use Rattle.lone_flow.proofs.SmallReads.Broken.{begins_so}
+use Rattle.lone_flow.proofs.SmallReads.Freely.{asks_so, makes_so}
 use Rattle.export_program.specs.Pieces.{piece_length, piece_program}
 use Rattle.export_program.proofs.Looks.{read_free}
 use Rattle.export_program.proofs.piece.read_piece.Goals as goal

@@ -1,8 +1,8 @@
 use Rattle.std.proofs.Common.{ap, sym, ◌∙◌}
-use Rattle.flow.specs.Composed.{is_awaiting}
+use Rattle.mount_model.specs.Composed.{is_awaiting}
 use Rattle.flatten_core.specs.Flattening.{tells}
 use Rattle.flatten_core.specs.Stages.{installing}
-use Rattle.flow.proofs.Composing.{again_then, next_then, same_rest}
+use Rattle.mount_model.proofs.Flows.Composing.{again_then, next_then, same_rest}
 use Rattle.flatten_core.proofs.giving.give_end.Goals as goal
 
 pub returns-clause-call : goal.returns-clause-call

@@ -1,9 +1,9 @@
 use Rattle.std.proofs.Common.{sym, ◌∙◌}
-use Rattle.flow.specs.Standing.{ready}
-use Rattle.flow.specs.Replies.{on_ok}
+use Rattle.mount_model.specs.Standing.{ready}
+use Rattle.mount_model.specs.FlowReplies.{on_ok}
 use Rattle.flatten_core.specs.Flattening.{lists}
 use Rattle.flatten_core.specs.StartStages.{starting}
-use Rattle.flow.proofs.Composing.{next_then}
+use Rattle.mount_model.proofs.Flows.Composing.{next_then}
 use Rattle.flatten_core.proofs.giving.give_start.Goals as goal
 
 pub returns-clause-call : goal.returns-clause-call

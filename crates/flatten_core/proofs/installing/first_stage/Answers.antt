@@ -1,12 +1,12 @@
 use Rattle.std.proofs.Common.{ℕ, List, ap, ◌∙◌}
 use Rattle.plfs_types.specs.declared.entries.Cover.{Cover}
-use Rattle.flow.specs.Standing.{ready}
-use Rattle.story.specs.Program.{followed_by}
-use Rattle.flow.specs.Replies.{on_ok}
+use Rattle.mount_model.specs.Standing.{ready}
+use Rattle.mount_model.specs.Program.{followed_by}
+use Rattle.mount_model.specs.FlowReplies.{on_ok}
 use Rattle.index_reader.specs.Opening.{scan_program}
 use Rattle.index_reader.specs.OpenStages.{open_rest}
 use Rattle.flatten_core.specs.Installing.{install_program, syncs_listed}
-use Rattle.flow.proofs.Composing.{ready_same}
+use Rattle.mount_model.proofs.Flows.Composing.{ready_same}
 use Rattle.flatten_core.proofs.installing.first_stage.Goals as goal
 
 pub returns-clause-standing : goal.returns-clause-standing

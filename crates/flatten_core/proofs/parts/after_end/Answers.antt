@@ -1,13 +1,13 @@
 use Rattle.std.proofs.Common.{ap, ◌∙◌}
 use Rattle.std.specs.Prelude.{Result}
-use Rattle.flow.specs.declared.stuck.Stuck.{Stuck}
-use Rattle.flow.specs.Standing.{Standing, ready}
-use Rattle.flow.specs.Composed.{then_on}
+use Rattle.mount_model.specs.declared.stuck.Stuck.{Stuck}
+use Rattle.mount_model.specs.Standing.{Standing, ready}
+use Rattle.mount_model.specs.Composed.{then_on}
 use Rattle.mount_model.specs.declared.call.Call.{Call}
 use Rattle.mount_model.specs.declared.reply.Reply.{Reply}
 use Rattle.flatten_core.specs.Flattening.{tells}
 use Rattle.flatten_core.specs.Stages.{installing}
-use Rattle.flow.proofs.Composing.{reply_then}
+use Rattle.mount_model.proofs.Flows.Composing.{reply_then}
 use Rattle.flatten_core.proofs.parts.after_end.Goals as goal
 
 pub returns-clause-goes_on : goal.returns-clause-goes_on

@@ -1,11 +1,11 @@
 use Rattle.std.proofs.Common.{ap, ◌∙◌}
-use Rattle.story.specs.Program.{followed_by}
-use Rattle.flow.specs.Standing.{ready}
-use Rattle.flow.specs.Replies.{Tries, on_ok}
+use Rattle.mount_model.specs.Program.{followed_by}
+use Rattle.mount_model.specs.Standing.{ready}
+use Rattle.mount_model.specs.FlowReplies.{Tries, on_ok}
 use Rattle.flatten_core.specs.declared.starting.Started.{Started}
 use Rattle.flatten_core.specs.Flattening.{lists}
 use Rattle.flatten_core.specs.StartStages.{starting}
-use Rattle.flow.proofs.Composing.{reply_then}
+use Rattle.mount_model.proofs.Flows.Composing.{reply_then}
 use Rattle.flatten_core.proofs.parts.after_start.Goals as goal
 
 pub returns-clause-goes_on : goal.returns-clause-goes_on

@@ -1,12 +1,12 @@
 use Rattle.std.proofs.Common.{◌≡◌, [], ap, ◌∙◌}
 use Rattle.std.specs.Prelude.{Result}
-use Rattle.flow.specs.declared.stuck.Stuck.{Stuck}
-use Rattle.story.specs.Program.{followed_by}
-use Rattle.flow.specs.Standing.{Standing, ready}
-use Rattle.flow.specs.Composed.{then_on}
+use Rattle.mount_model.specs.declared.stuck.Stuck.{Stuck}
+use Rattle.mount_model.specs.Program.{followed_by}
+use Rattle.mount_model.specs.Standing.{Standing, ready}
+use Rattle.mount_model.specs.Composed.{then_on}
 use Rattle.mount_model.specs.declared.call.Call.{Call}
 use Rattle.mount_model.specs.declared.reply.Reply.{Reply}
-use Rattle.flow.specs.Replies.{on_ok}
+use Rattle.mount_model.specs.FlowReplies.{on_ok}
 use Rattle.index_reader.specs.declared.listing.Listing.{Listing}
 use Rattle.gather_flow.specs.declared.all_read.AllRead.{AllRead}
 use Rattle.gather_flow.specs.Gathering.{gather_standing, shares_from}
@@ -14,7 +14,7 @@ use Rattle.flatten_core.specs.declared.parts.Part.{Part}
 use Rattle.flatten_core.specs.Flattening.{gathers, installs_gathered}
 use Rattle.flatten_core.specs.Parts.{parted}
 use Rattle.std.proofs.lemmas.Result.{IfOk-weaker}
-use Rattle.flow.proofs.Composing.{fresh_so}
+use Rattle.mount_model.proofs.Flows.Composing.{fresh_so}
 use Rattle.flatten_core.proofs.parts.gather.Goals as goal
 
 pub gather_on-requires : goal.gather_on-requires

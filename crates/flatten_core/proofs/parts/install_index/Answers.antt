@@ -1,9 +1,9 @@
 use Rattle.std.proofs.Common.{ap, ◌∙◌}
 use Rattle.std.specs.Prelude.{Result}
-use Rattle.flow.specs.declared.stuck.Stuck.{Stuck}
-use Rattle.story.specs.Program.{followed_by}
-use Rattle.flow.specs.Standing.{Standing, ready, rest_of}
-use Rattle.flow.specs.Composed.{is_awaiting, then_on}
+use Rattle.mount_model.specs.declared.stuck.Stuck.{Stuck}
+use Rattle.mount_model.specs.Program.{followed_by}
+use Rattle.mount_model.specs.Standing.{Standing, ready, rest_of}
+use Rattle.mount_model.specs.Composed.{is_awaiting, then_on}
 use Rattle.mount_model.specs.declared.call.Call.{Call}
 use Rattle.mount_model.specs.declared.reply.Reply.{Reply}
 use Rattle.flat_format.specs.Spelling.{flat_spelling}

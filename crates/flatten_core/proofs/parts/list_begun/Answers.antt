@@ -1,11 +1,11 @@
 use Rattle.std.proofs.Common.{ap, sym, ◌∙◌}
 use Rattle.std.specs.Prelude.{Result}
-use Rattle.flow.specs.declared.stuck.Stuck.{Stuck}
-use Rattle.flow.specs.Standing.{Standing, ready, rest_of}
-use Rattle.flow.specs.Composed.{is_awaiting, then_on}
+use Rattle.mount_model.specs.declared.stuck.Stuck.{Stuck}
+use Rattle.mount_model.specs.Standing.{Standing, ready, rest_of}
+use Rattle.mount_model.specs.Composed.{is_awaiting, then_on}
 use Rattle.mount_model.specs.declared.call.Call.{Call}
 use Rattle.mount_model.specs.declared.reply.Reply.{Reply}
-use Rattle.flow.specs.Replies.{on_ok}
+use Rattle.mount_model.specs.FlowReplies.{on_ok}
 use Rattle.index_reader.specs.declared.listing.Listing.{Listing}
 use Rattle.flatten_core.specs.declared.starting.Started.{Started}
 use Rattle.flatten_core.specs.Flattening.{gathers, lists}

@@ -1,10 +1,10 @@
 use Rattle.std.proofs.Common.{◌≡◌, sym, ◌∙◌}
-use Rattle.flow.specs.Standing.{ready}
-use Rattle.flow.specs.Composed.{then_on}
-use Rattle.flow.specs.Replies.{on_ok}
+use Rattle.mount_model.specs.Standing.{ready}
+use Rattle.mount_model.specs.Composed.{then_on}
+use Rattle.mount_model.specs.FlowReplies.{on_ok}
 use Rattle.index_reader.specs.OpenStages.{open_standing}
 use Rattle.std.proofs.lemmas.Result.{IfOk-weaker}
-use Rattle.flow.proofs.Composing.{leads_then}
+use Rattle.mount_model.proofs.Flows.Composing.{leads_then}
 use Rattle.flatten_core.specs.declared.parts.Part.{Part}
 use Rattle.flatten_core.specs.Flattening.{gathers}
 use Rattle.flatten_core.specs.Parts.{parted}

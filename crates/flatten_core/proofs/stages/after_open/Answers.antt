@@ -1,7 +1,7 @@
 use Rattle.std.proofs.Common.{ap, sym, ◌∙◌}
-use Rattle.story.specs.Program.{followed_by}
-use Rattle.flow.specs.Standing.{ready}
-use Rattle.flow.specs.Replies.{on_ok}
+use Rattle.mount_model.specs.Program.{followed_by}
+use Rattle.mount_model.specs.Standing.{ready}
+use Rattle.mount_model.specs.FlowReplies.{on_ok}
 use Rattle.index_reader.specs.OpenStages.{after_open}
 use Rattle.flatten_core.specs.Installing.{syncs_listed}
 use Rattle.flatten_core.proofs.stages.after_open.Goals as goal

@@ -1,14 +1,14 @@
 use Rattle.std.proofs.Common.{◌≡◌, ap, ◌∙◌}
-use Rattle.story.specs.Program.{followed_by}
-use Rattle.flow.specs.Standing.{ready, replied, rest_of}
-use Rattle.flow.specs.Replies.{on_ok}
+use Rattle.mount_model.specs.Program.{followed_by}
+use Rattle.mount_model.specs.Standing.{ready, replied, rest_of}
+use Rattle.mount_model.specs.FlowReplies.{on_ok}
 use Rattle.index_reader.specs.OpenStages.{open_standing}
 use Rattle.flatten_core.specs.Installing.{syncs_listed}
 use Rattle.flatten_core.specs.Stages.{installing}
 use Rattle.flatten_core.specs.declared.stages.Stage.{Stage}
 use Rattle.flatten_core.specs.declared.stages.Stage.TheVariants.{Scanning}
 use Rattle.std.proofs.lemmas.Result.{IfOk-weaker}
-use Rattle.flow.proofs.Composing.{reply_then}
+use Rattle.mount_model.proofs.Flows.Composing.{reply_then}
 use Rattle.flatten_core.proofs.stages.after_scan.Goals as goal
 
 pub returns-clause-goes_on : goal.returns-clause-goes_on

@@ -1,4 +1,4 @@
-use Rattle.flow.specs.Standing.{IsFresh}
+use Rattle.mount_model.specs.Standing.{IsFresh}
 use Rattle.flow_tests.proofs.newest.drive.Given as goal
 
 abbrev pub invariant-loop-call : goal.invariant-loop-call

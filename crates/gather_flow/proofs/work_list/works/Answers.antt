@@ -1,5 +1,5 @@
 use Rattle.std.proofs.Common.{List, ◌+◌, ◌++◌, map, ap, ◌∙◌}
-use Rattle.flow.specs.Standing.{ready}
+use Rattle.mount_model.specs.Standing.{ready}
 use Rattle.index_reader.specs.declared.sharing.ShareRead.{ShareRead}
 use Rattle.index_reader.specs.Stages.{share_standing}
 use Rattle.gather_flow.specs.Shares.{programs_from}

@@ -1,7 +1,7 @@
 use Rattle.std.proofs.Common.{ap, sym, ◌∙◌}
-use Rattle.story.specs.Program.{followed_by}
-use Rattle.flow.specs.Standing.{ready}
-use Rattle.flow.specs.Replies.{on_ok}
+use Rattle.mount_model.specs.Program.{followed_by}
+use Rattle.mount_model.specs.Standing.{ready}
+use Rattle.mount_model.specs.FlowReplies.{on_ok}
 use Rattle.index_reader.specs.OpenStages.{after_open}
 use Rattle.migrate_core.specs.Migrating.{migrates_listed}
 use Rattle.migrate_core.proofs.going.after_scan.Goals as goal

@@ -1,4 +1,4 @@
-use Rattle.flow.specs.Replies.{on_ok}
+use Rattle.mount_model.specs.FlowReplies.{on_ok}
 use Rattle.migrate_core.specs.declared.stage.Underway.{Underway}
 use Rattle.migrate_core.specs.Counting.{noted}
 use Rattle.migrate_core.specs.Migrating.{migrates}

@@ -1,5 +1,5 @@
 use Rattle.std.proofs.Common.{ap, ◌∙◌}
-use Rattle.flow.specs.Standing.{ready, replied, rest_of}
+use Rattle.mount_model.specs.Standing.{ready, replied, rest_of}
 use Rattle.migrate_core.proofs.TopLemmas.{top_shown}
 use Rattle.migrate_core.proofs.going.after_top.Goals as goal
 

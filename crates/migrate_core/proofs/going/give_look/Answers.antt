@@ -1,6 +1,6 @@
 use Rattle.std.proofs.Common.{sym, ◌∙◌}
 use Rattle.index_reader.specs.OpenStages.{open_standing}
-use Rattle.flow.proofs.Composing.{next_then}
+use Rattle.mount_model.proofs.Flows.Composing.{next_then}
 use Rattle.migrate_core.proofs.going.give_look.Goals as goal
 
 pub returns-clause-call : goal.returns-clause-call

@@ -1,9 +1,9 @@
 use Rattle.std.proofs.Common.{ap, ◌∙◌}
-use Rattle.flow.specs.Replies.{on_ok}
+use Rattle.mount_model.specs.FlowReplies.{on_ok}
 use Rattle.index_reader.specs.OpenStages.{open_standing}
 use Rattle.migrate_core.specs.Migrating.{migrates_listed}
-use Rattle.flow.specs.Composed.{is_awaiting}
-use Rattle.flow.proofs.Composing.{again_then, same_rest}
+use Rattle.mount_model.specs.Composed.{is_awaiting}
+use Rattle.mount_model.proofs.Flows.Composing.{again_then, same_rest}
 use Rattle.migrate_core.proofs.going.give_scan.Goals as goal
 
 pub returns-clause-rest : goal.returns-clause-rest

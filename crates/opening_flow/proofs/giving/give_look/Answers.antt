@@ -1,9 +1,9 @@
 use Rattle.std.proofs.Common.{ap, sym, ◌∙◌}
-use Rattle.flow.specs.Replies.{on_ok}
+use Rattle.mount_model.specs.FlowReplies.{on_ok}
 use Rattle.index_reader.specs.OpenStages.{open_standing}
-use Rattle.flow.specs.Composed.{is_awaiting}
+use Rattle.mount_model.specs.Composed.{is_awaiting}
 use Rattle.opening_flow.specs.Opening.{opens}
-use Rattle.flow.proofs.Composing.{again_then, next_then, same_rest}
+use Rattle.mount_model.proofs.Flows.Composing.{again_then, next_then, same_rest}
 use Rattle.opening_flow.proofs.giving.give_look.Goals as goal
 
 pub returns-clause-call : goal.returns-clause-call

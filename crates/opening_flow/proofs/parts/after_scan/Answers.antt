@@ -1,11 +1,11 @@
 use Rattle.std.proofs.Common.{◌≡◌, ap, ◌∙◌}
 use Rattle.std.specs.Prelude.{Result}
-use Rattle.flow.specs.declared.stuck.Stuck.{Stuck}
-use Rattle.flow.specs.Standing.{Standing, ready, replied, rest_of}
-use Rattle.flow.specs.Composed.{then_on}
+use Rattle.mount_model.specs.declared.stuck.Stuck.{Stuck}
+use Rattle.mount_model.specs.Standing.{Standing, ready, replied, rest_of}
+use Rattle.mount_model.specs.Composed.{then_on}
 use Rattle.mount_model.specs.declared.call.Call.{Call}
 use Rattle.mount_model.specs.declared.reply.Reply.{Reply}
-use Rattle.flow.specs.Replies.{on_ok}
+use Rattle.mount_model.specs.FlowReplies.{on_ok}
 use Rattle.index_reader.specs.declared.listing.Listing.{Listing as Listed}
 use Rattle.index_reader.specs.OpenStages.{open_standing}
 use Rattle.opening_flow.specs.declared.parts.Part.{Part}
@@ -13,7 +13,7 @@ use Rattle.opening_flow.specs.declared.parts.Part.TheVariants.{Listing}
 use Rattle.opening_flow.specs.Opening.{opens}
 use Rattle.opening_flow.specs.Parts.{parted}
 use Rattle.std.proofs.lemmas.Result.{IfOk-weaker}
-use Rattle.flow.proofs.Composing.{reply_then}
+use Rattle.mount_model.proofs.Flows.Composing.{reply_then}
 use Rattle.opening_flow.proofs.parts.after_scan.Goals as goal
 
 pub returns-in-Ok-clause-goes_on : goal.returns-in-Ok-clause-goes_on

@@ -1,12 +1,12 @@
 use Rattle.std.proofs.Common.{◌≡◌, ap, sym, ◌∙◌, subst}
 use Rattle.std.specs.Prelude.{Result}
-use Rattle.flow.specs.declared.stuck.Stuck.{Stuck}
-use Rattle.flow.specs.Standing.{Standing, ready}
-use Rattle.flow.specs.Composed.{then_on}
-use Rattle.story.specs.Program.{done}
+use Rattle.mount_model.specs.declared.stuck.Stuck.{Stuck}
+use Rattle.mount_model.specs.Standing.{Standing, ready}
+use Rattle.mount_model.specs.Composed.{then_on}
+use Rattle.mount_model.specs.Program.{done}
 use Rattle.mount_model.specs.declared.call.Call.{Call}
 use Rattle.mount_model.specs.declared.reply.Reply.{Reply}
-use Rattle.flow.specs.Replies.{on_ok}
+use Rattle.mount_model.specs.FlowReplies.{on_ok}
 use Rattle.gather_flow.specs.declared.all_read.AllRead.{AllRead}
 use Rattle.gather_flow.specs.declared.gathering.Called.{Called}
 use Rattle.gather_flow.specs.declared.gathering.Called.TheVariants.{Asks}
@@ -16,7 +16,7 @@ use Rattle.opening_flow.specs.declared.parts.Part.{Part}
 use Rattle.opening_flow.specs.Opening.{reads_as}
 use Rattle.opening_flow.specs.Parts.{parted}
 use Rattle.std.proofs.lemmas.Result.{IfOk-weaker}
-use Rattle.flow.proofs.Composing.{calls_awaits, calls_then}
+use Rattle.mount_model.proofs.Flows.Composing.{calls_awaits, calls_then}
 use Rattle.opening_flow.proofs.parts.gather_on.Goals as goal
 
 pub returns-in-Asks-clause-goes_on : goal.returns-in-Asks-clause-goes_on

@@ -1,12 +1,12 @@
 use Rattle.std.proofs.Common.{◌≡◌, ℕ, suc, ◌-◌, false, ◌∙◌, ap, sym, arith, List, Result}
-use Rattle.flow.specs.declared.stuck.Stuck.{Stuck}
+use Rattle.mount_model.specs.declared.stuck.Stuck.{Stuck}
 use Rattle.mount_model.specs.declared.call.Call.{Call}
 use Rattle.mount_model.specs.declared.reply.Reply.{Reply}
-use Rattle.flow.specs.Standing.{Standing, ready}
+use Rattle.mount_model.specs.Standing.{Standing, ready}
 use Rattle.index_reader.specs.ReadingStages.{read_standing}
 use Rattle.unit_format.specs.Scanning.{is_settled}
 use Rattle.pack_files.specs.Scanning.{scans, after_read, further}
-use Rattle.flow.specs.Composed.{then_on}
+use Rattle.mount_model.specs.Composed.{then_on}
 use Rattle.pack_files.proofs.Chunks.{scans_on}
 use Rattle.pack_files.proofs.reading.begin.Goals as goal
 

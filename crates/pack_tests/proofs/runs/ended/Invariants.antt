@@ -1,4 +1,4 @@
-use Rattle.flow.specs.Standing.{IsFresh}
+use Rattle.mount_model.specs.Standing.{IsFresh}
 use Rattle.pack_tests.proofs.runs.ended.Given as goal
 
 abbrev pub invariant-loop-flow : goal.invariant-loop-flow

@@ -1,5 +1,5 @@
 use Rattle.std.proofs.Common.{Ok, sym, subst}
-use Rattle.pack_puts.specs.declared.packing.Packed.{Packed}
+use Rattle.lone_flow.specs.declared.packing.Packed.{Packed}
 use Rattle.program_ends.specs.Reported.{IsReported}
 use Rattle.plfs_program.specs.Packing.{packed_status, packed_text}
 use Rattle.plfs_program.proofs.packing.say_end.Goals as goal

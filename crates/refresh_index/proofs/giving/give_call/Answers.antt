@@ -1,10 +1,10 @@
 use Rattle.std.proofs.Common.{◌≡◌, Some}
 use Rattle.mount_model.specs.declared.call.Call.{Call}
-use Rattle.flow.specs.Standing.{next_of}
-use Rattle.flow.specs.Composed.{calling}
+use Rattle.mount_model.specs.Standing.{next_of}
+use Rattle.mount_model.specs.Composed.{calling}
 use Rattle.gather_flow.specs.Gathering.{gather_rest}
 use Rattle.refresh_index.specs.Refreshing.{if_gathered}
-use Rattle.flow.proofs.Composing.{given_again, given_next, given_rest}
+use Rattle.mount_model.proofs.Flows.Composing.{given_again, given_next, given_rest}
 use Rattle.refresh_index.proofs.giving.give_call.Goals as goal
 
 pub returns-clause-call : goal.returns-clause-call

@@ -1,5 +1,5 @@
 use Rattle.index_reader.specs.OpenStages.{open_standing}
-use Rattle.flow.proofs.Composing.{same_rest}
+use Rattle.mount_model.proofs.Flows.Composing.{same_rest}
 use Rattle.refresh_index.specs.Refreshing.{if_listed}
 use Rattle.refresh_index.proofs.giving.give_look.Goals as goal
 

@@ -1,8 +1,8 @@
 use Rattle.std.proofs.Common.{◌≡◌, Option, ap, ◌∙◌}
 use Rattle.std.specs.Prelude.{Result}
-use Rattle.flow.specs.declared.stuck.Stuck.{Stuck}
-use Rattle.flow.specs.Standing.{Standing, ready, replied, rest_of}
-use Rattle.flow.specs.Composed.{calling, then_on}
+use Rattle.mount_model.specs.declared.stuck.Stuck.{Stuck}
+use Rattle.mount_model.specs.Standing.{Standing, ready, replied, rest_of}
+use Rattle.mount_model.specs.Composed.{calling, then_on}
 use Rattle.mount_model.specs.declared.call.Call.{Call}
 use Rattle.mount_model.specs.declared.reply.Reply.{Reply}
 use Rattle.gather_flow.specs.declared.all_read.AllRead.{AllRead}
@@ -11,7 +11,7 @@ use Rattle.refresh_index.specs.declared.parts.Part.{Part}
 use Rattle.refresh_index.specs.Refreshing.{if_gathered}
 use Rattle.refresh_index.specs.Parts.{parted}
 use Rattle.std.proofs.lemmas.Result.{IfOk-weaker}
-use Rattle.flow.proofs.Composing.{fresh_so, reply_calling}
+use Rattle.mount_model.proofs.Flows.Composing.{fresh_so, reply_calling}
 use Rattle.refresh_index.proofs.parts.after_call.Goals as goal
 
 pub gather_on-requires : goal.gather_on-requires

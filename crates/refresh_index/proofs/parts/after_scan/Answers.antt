@@ -1,8 +1,8 @@
 use Rattle.std.proofs.Common.{◌≡◌, ap, ◌∙◌}
 use Rattle.std.specs.Prelude.{Result}
-use Rattle.flow.specs.declared.stuck.Stuck.{Stuck}
-use Rattle.flow.specs.Standing.{Standing, ready, replied, rest_of}
-use Rattle.flow.specs.Composed.{then_on}
+use Rattle.mount_model.specs.declared.stuck.Stuck.{Stuck}
+use Rattle.mount_model.specs.Standing.{Standing, ready, replied, rest_of}
+use Rattle.mount_model.specs.Composed.{then_on}
 use Rattle.mount_model.specs.declared.call.Call.{Call}
 use Rattle.mount_model.specs.declared.reply.Reply.{Reply}
 use Rattle.index_reader.specs.declared.listing.Listing.{Listing as Listed}
@@ -12,7 +12,7 @@ use Rattle.refresh_index.specs.declared.parts.Part.TheVariants.{Listing}
 use Rattle.refresh_index.specs.Refreshing.{if_listed}
 use Rattle.refresh_index.specs.Parts.{parted}
 use Rattle.std.proofs.lemmas.Result.{IfOk-weaker}
-use Rattle.flow.proofs.Composing.{reply_then}
+use Rattle.mount_model.proofs.Flows.Composing.{reply_then}
 use Rattle.refresh_index.proofs.parts.after_scan.Goals as goal
 
 pub returns-in-Ok-clause-goes_on : goal.returns-in-Ok-clause-goes_on

@@ -1,5 +1,5 @@
 use Rattle.std.proofs.Common.{[], ap, ◌∙◌}
-use Rattle.flow.specs.Standing.{ready}
+use Rattle.mount_model.specs.Standing.{ready}
 use Rattle.index_reader.specs.declared.listing.Listing.{Listing}
 use Rattle.gather_flow.specs.Gathering.{shares_from}
 use Rattle.refresh_index.proofs.parts.begun.Goals as goal

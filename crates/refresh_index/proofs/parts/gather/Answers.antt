@@ -1,10 +1,10 @@
 use Rattle.std.proofs.Common.{◌≡◌, [], ap, ◌∙◌}
 use Rattle.std.specs.Prelude.{Result}
 use Rattle.std.proofs.lemmas.Result.{IfOk-weaker}
-use Rattle.flow.specs.declared.stuck.Stuck.{Stuck}
-use Rattle.flow.specs.Standing.{Standing, ready}
-use Rattle.flow.specs.Composed.{then_on}
-use Rattle.flow.proofs.Composing.{fresh_so}
+use Rattle.mount_model.specs.declared.stuck.Stuck.{Stuck}
+use Rattle.mount_model.specs.Standing.{Standing, ready}
+use Rattle.mount_model.specs.Composed.{then_on}
+use Rattle.mount_model.proofs.Flows.Composing.{fresh_so}
 use Rattle.mount_model.specs.declared.call.Call.{Call}
 use Rattle.mount_model.specs.declared.reply.Reply.{Reply}
 use Rattle.gather_flow.specs.declared.all_read.AllRead.{AllRead}

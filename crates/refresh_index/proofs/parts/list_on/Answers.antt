@@ -1,6 +1,6 @@
 use Rattle.std.proofs.Common.{refl, sym, ◌∙◌}
 use Rattle.index_reader.specs.OpenStages.{open_standing}
-use Rattle.flow.proofs.Composing.{through}
+use Rattle.mount_model.proofs.Flows.Composing.{through}
 use Rattle.refresh_index.proofs.parts.list_on.Goals.{in-Some, in-None}
 use Rattle.refresh_index.proofs.parts.list_on.Goals as goal
 

@@ -1,9 +1,9 @@
 use Rattle.std.proofs.Common.{◌≡◌, sym, ◌∙◌}
-use Rattle.flow.specs.Standing.{ready}
-use Rattle.flow.specs.Composed.{then_on}
+use Rattle.mount_model.specs.Standing.{ready}
+use Rattle.mount_model.specs.Composed.{then_on}
 use Rattle.index_reader.specs.OpenStages.{open_standing}
 use Rattle.std.proofs.lemmas.Result.{IfOk-weaker}
-use Rattle.flow.proofs.Composing.{leads_then}
+use Rattle.mount_model.proofs.Flows.Composing.{leads_then}
 use Rattle.refresh_index.specs.declared.parts.Part.{Part}
 use Rattle.refresh_index.specs.Refreshing.{if_listed}
 use Rattle.refresh_index.specs.Parts.{parted}

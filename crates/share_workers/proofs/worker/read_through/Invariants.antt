@@ -1,9 +1,9 @@
 use Rattle.std.proofs.Common.{◌≡◌}
 use Rattle.turn_object.specs.Pass.{ended_of}
-use Rattle.flow.specs.Standing.{ready}
+use Rattle.mount_model.specs.Standing.{ready}
 use Rattle.mount_model.specs.declared.call.Call.{Call}
 use Rattle.mount_model.specs.declared.reply.Reply.{Reply}
-use Rattle.story.specs.Program.{Program}
+use Rattle.mount_model.specs.Program.{Program}
 use Rattle.share_workers.specs.Passes.{IsAfter}
 use Rattle.share_workers.specs.Workers.{IsWithin}
 use Rattle.share_workers.proofs.worker.read_through.Given as goal

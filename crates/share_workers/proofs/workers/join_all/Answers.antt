@@ -4,8 +4,8 @@ use Rattle.std.proofs.lemmas.Iterator.Adapters.{YieldsList-from_vec}
 use Rattle.std.proofs.lemmas.Iterator.Consumers.{YieldsList-turn}
 use Rattle.turn_object.specs.Ended.{as_ended}
 use Rattle.turn_object.specs.Pass.{parts_of, mine_of, seen_of, ended_of}
-use Rattle.flow.specs.declared.stuck.Stuck.TheVariants.{Fault}
-use Rattle.story.specs.Program.{done}
+use Rattle.mount_model.specs.declared.stuck.Stuck.TheVariants.{Fault}
+use Rattle.mount_model.specs.Program.{done}
 use Rattle.share_workers.specs.Passes.{ThePass}
 use Rattle.gather_flow.specs.Workers.{Reading}
 use Rattle.share_workers.specs.Workers.{CanJoin, HasWorked, Gathers}

@@ -7,10 +7,10 @@ use Rattle.turn_object.specs.Pass.{start_of, front, seen_of}
 use Rattle.mount_model.specs.Step.{IsStep}
 use Rattle.mount_model.specs.History.{Event}
 use Rattle.mount_sound.specs.Owed.{Permits}
-use Rattle.flow.specs.declared.stuck.Stuck.TheVariants.{Fault}
-use Rattle.story.specs.Program.{done}
-use Rattle.story.specs.Going.{HasJoined}
-use Rattle.story.specs.Safe.{AreFree}
+use Rattle.mount_model.specs.declared.stuck.Stuck.TheVariants.{Fault}
+use Rattle.mount_model.specs.Program.{done}
+use Rattle.mount_model.specs.Going.{HasJoined}
+use Rattle.mount_model.specs.Safe.{AreFree}
 use Rattle.gather_flow.specs.Workers.{Reading, IsOutcomeOf}
 use Rattle.share_workers.specs.Workers.{Reader, CanRead, EachWorks, EachHasWorked, calls_of_worker}
 use Rattle.share_workers.proofs.WorkersTogether.{ok_so, all_may, same_programs, each_started, each_worked, given_begun, given_join, joined_from, started_begun, written_back, read_from}

@@ -1,6 +1,6 @@
 use Rattle.std.proofs.Common.{◌≡◌, List, Option, Result, subst}
 use Rattle.turn_object.specs.Pass.{start_of, front}
-use Rattle.flow.specs.declared.stuck.Stuck.{Stuck}
+use Rattle.mount_model.specs.declared.stuck.Stuck.{Stuck}
 use Rattle.index_reader.specs.declared.sharing.Share.{Share}
 use Rattle.index_reader.specs.declared.sharing.ShareRead.{ShareRead}
 use Rattle.gather_flow.specs.Workers.{IsOutcomeOf}

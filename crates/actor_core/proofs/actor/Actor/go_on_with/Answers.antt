@@ -1,7 +1,7 @@
-use Rattle.std.proofs.Common.{Result, ◌∙◌, subst}
-use Rattle.flow.specs.declared.stuck.Stuck.{Stuck}
+use Rattle.std.proofs.Common.{Result, ◌∙◌, subst, false}
+use Rattle.mount_model.specs.declared.stuck.Stuck.{Stuck}
 use Rattle.index_reader.specs.declared.sharing.Share.{Share}
-use Rattle.actor_core.specs.declared.actor.State.TheVariants.{Ready}
+use Rattle.actor_core.specs.declared.actor.State.TheVariants.{Working}
 use Rattle.actor_core.specs.declared.doing.Doing.TheVariants.{Gathering}
 use Rattle.actor_core.specs.declared.purpose.Purpose.TheVariants.{Opens}
 use Rattle.gather_flow.specs.Workers.{IsOutcomeOf}
@@ -13,5 +13,5 @@ pub returns-in_ok-flow-in-Ok-clause-goes_on : goal.returns-in_ok-flow-in-Ok-clau
 returns-in_ok-flow-in-Ok-clause-goes_on c = λ results outcome.
     let me = c.args.self.now in
     let P : Result Share Stuck → Type 0 = λ given. IsOutcomeOf results given in
-    placed c.set.new.self me.number me.kept me.stop (Ready (Gathering c.in_ok-flow-in-Ok.flow (Opens 1))) c.set.ensures.state c.set.ensures.kept c.set.ensures.number c.set.ensures.stop
+    placed c.set.new.self me.number me.kept me.stop (Working (Gathering c.in_ok-flow-in-Ok.flow (Opens 1)) false) c.set.ensures.state c.set.ensures.kept c.set.ensures.number c.set.ensures.stop
     ∙ given_share me.number me.kept me.stop c.args.listed results c.in-Ok.share c.in_ok-flow-in-Ok.flow c.in_ok-flow-in-Ok.ensures.standing (subst P c.in-Ok.is outcome)

@@ -1,8 +1,8 @@
-use Rattle.std.proofs.Common.{map, sym, ap, ◌∙◌}
-use Rattle.flow.specs.Standing.{ready}
+use Rattle.std.proofs.Common.{map, sym, ap, ◌∙◌, false}
+use Rattle.mount_model.specs.Standing.{ready}
 use Rattle.index_reader.specs.declared.listing.Listing.{Listing}
 use Rattle.gather_flow.specs.Shares.{programs_from}
-use Rattle.actor_core.specs.declared.actor.State.TheVariants.{HandedOut, Ready}
+use Rattle.actor_core.specs.declared.actor.State.TheVariants.{HandedOut, Working}
 use Rattle.actor_core.specs.declared.doing.Doing.TheVariants.{Listing as Lists}
 use Rattle.actor_core.specs.declared.purpose.Purpose.TheVariants.{Opens}
 use Rattle.actor_core.specs.Progress.{handed}
@@ -26,4 +26,4 @@ returns-in-Some-clause-handed c =
     let me = c.args.self.now in
     hands_none_yet me.number me.kept me.stop c.args.workers c.args.flow c.next.new.self c.in-Some.call (progress_of c.set.new.self)
     (sym c.in-Some.is ∙ c.in-Ok.ensures.call) c.in-Ok.ensures.rest c.in-Ok.ensures.again
-    (placed c.set.new.self me.number me.kept me.stop (Ready (Lists c.next.new.self (Opens c.args.workers))) c.set.ensures.state c.set.ensures.kept c.set.ensures.number c.set.ensures.stop)
+    (placed c.set.new.self me.number me.kept me.stop (Working (Lists c.next.new.self (Opens c.args.workers)) false) c.set.ensures.state c.set.ensures.kept c.set.ensures.number c.set.ensures.stop)

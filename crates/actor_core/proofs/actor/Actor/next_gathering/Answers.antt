@@ -1,5 +1,5 @@
-use Rattle.std.proofs.Common.{Some, ap, ◌∙◌, subst}
-use Rattle.actor_core.specs.declared.actor.State.TheVariants.{Asked}
+use Rattle.std.proofs.Common.{Some, ap, ◌∙◌, subst, true}
+use Rattle.actor_core.specs.declared.actor.State.TheVariants.{Working}
 use Rattle.actor_core.specs.declared.doing.Doing.TheVariants.{Gathering}
 use Rattle.gather_flow.specs.declared.gathering.Called.{Called}
 use Rattle.gather_flow.specs.declared.gathering.Called.TheVariants as called
@@ -20,6 +20,6 @@ pub returns-in-Asks-clause-goes_on : goal.returns-in-Asks-clause-goes_on
 returns-in-Asks-clause-goes_on c =
     let P : Called → Type 0 = λ told. IsCalled c.args.flow told in
     let is : IsCalled c.args.flow (called.Asks c.in-Asks.call c.in-Asks.asking) = subst P c.in-Asks.is c.in_ok-call.ensures in
-    placed c.set.new.self c.args.self.now.number c.args.self.now.kept c.args.self.now.stop (Asked (Gathering c.in-Asks.asking c.args.purpose))
+    placed c.set.new.self c.args.self.now.number c.args.self.now.kept c.args.self.now.stop (Working (Gathering c.in-Asks.asking c.args.purpose) true)
     c.set.ensures.state c.set.ensures.kept c.set.ensures.number c.set.ensures.stop
     ∙ gather_out c.args.self.now.number c.args.self.now.kept c.args.self.now.stop c.args.flow c.in-Asks.asking c.args.purpose c.in-Asks.call is

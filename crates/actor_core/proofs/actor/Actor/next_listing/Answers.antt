@@ -1,10 +1,10 @@
-use Rattle.std.proofs.Common.{◌≡◌, [], Option, sym, ◌∙◌, subst}
+use Rattle.std.proofs.Common.{◌≡◌, [], Option, sym, ◌∙◌, subst, true}
 use Rattle.std.specs.Prelude.{IfOk, OnOk}
-use Rattle.flow.specs.Standing.{ready}
+use Rattle.mount_model.specs.Standing.{ready}
 use Rattle.mount_model.specs.declared.call.Ask.{Ask}
 use Rattle.index_reader.specs.OpenStages.{open_standing}
 use Rattle.actor_core.specs.declared.doing.Doing.TheVariants.{Listing}
-use Rattle.actor_core.specs.declared.actor.State.TheVariants.{Asked}
+use Rattle.actor_core.specs.declared.actor.State.TheVariants.{Working}
 use Rattle.actor_core.specs.Endings.{stopped}
 use Rattle.actor_core.specs.Purposes.{workers_of, if_listed_for}
 use Rattle.gather_flow.specs.Gathering.{gather_standing, shares_from}
@@ -22,7 +22,7 @@ returns-in-Some-clause-ask c =
 
 pub returns-in-Some-clause-goes_on : goal.returns-in-Some-clause-goes_on
 returns-in-Some-clause-goes_on c =
-    placed c.set.new.self c.args.self.now.number c.args.self.now.kept c.args.self.now.stop (Asked (Listing c.in_ok-next.next c.args.purpose))
+    placed c.set.new.self c.args.self.now.number c.args.self.now.kept c.args.self.now.stop (Working (Listing c.in_ok-next.next c.args.purpose) true)
     c.set.ensures.state c.set.ensures.kept c.set.ensures.number c.set.ensures.stop
     ∙ is_out c.args.self.now.number (open_standing c.args.flow) (open_standing c.in_ok-next.next) c.args.self.now.stop (if_listed_for c.args.purpose c.args.self.now.kept) (finishes (stopped c.args.self.now.kept)) c.in-Some.ask
     c.requires.ready (sym c.in-Some.is ∙ c.in_ok-next.ensures.ask) c.in_ok-next.ensures.rest

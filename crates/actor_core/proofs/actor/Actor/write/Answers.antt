@@ -1,5 +1,5 @@
 use Rattle.std.proofs.Common.{ap, ◌∙◌, sym}
-use Rattle.flow.specs.Standing.{ready}
+use Rattle.mount_model.specs.Standing.{ready}
 use Rattle.writer_flow.specs.Writing.{write_program}
 use Rattle.writer_flow.specs.WritingStages.{write_standing}
 use Rattle.outcomes.specs.Data.{bytes_of}

@@ -1,6 +1,6 @@
 use Rattle.std.proofs.Common.{rules, ◌≡◌, Some, subst}
 use Rattle.std.specs.Prelude.{IfSome}
-use Rattle.flow.specs.Standing.{next_of}
+use Rattle.mount_model.specs.Standing.{next_of}
 use Rattle.flatten_core.specs.declared.parts.Part.{Part}
 use Rattle.flatten_core.specs.FlattenStages.{flatten_standing, flatten_left}
 use Rattle.flatten_core.specs.Parts.{parted}

@@ -1,5 +1,5 @@
 use Rattle.std.proofs.Common.{◌≡◌, sym, subst}
-use Rattle.flow.specs.Standing.{ready, rest_of, replied, Awaits}
+use Rattle.mount_model.specs.Standing.{ready, rest_of, replied, Awaits}
 use Rattle.index_reader.specs.Stages.{share_standing}
 use Rattle.gather_flow.specs.declared.gathering.Gathering.{Gathering}
 use Rattle.gather_flow.specs.declared.gathering.Gathering.TheVariants.{Shares}

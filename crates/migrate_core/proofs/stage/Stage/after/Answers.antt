@@ -1,12 +1,12 @@
 use Rattle.std.proofs.Common.{◌≡◌, true, ap, subst, sym, ◌∙◌}
 use Rattle.std.proofs.lemmas.Result.{IfOk-weaker}
 use Rattle.std.specs.Prelude.{IfOk, Result}
-use Rattle.story.specs.Program.{followed_by}
-use Rattle.flow.specs.Standing.{ready, replied, rest_of}
-use Rattle.flow.specs.Composed.{is_awaiting}
-use Rattle.flow.specs.declared.stuck.Stuck.{Stuck}
-use Rattle.flow.proofs.Composing.{reply_then}
-use Rattle.flow.specs.Replies.{Tries, on_ok}
+use Rattle.mount_model.specs.Program.{followed_by}
+use Rattle.mount_model.specs.Standing.{ready, replied, rest_of}
+use Rattle.mount_model.specs.Composed.{is_awaiting}
+use Rattle.mount_model.specs.declared.stuck.Stuck.{Stuck}
+use Rattle.mount_model.proofs.Flows.Composing.{reply_then}
+use Rattle.mount_model.specs.FlowReplies.{Tries, on_ok}
 use Rattle.index_reader.specs.declared.listing.Listing.{Listing}
 use Rattle.index_reader.specs.OpenStages.{open_standing}
 use Rattle.migrate_core.specs.declared.migrated.Migrated.{Migrated}

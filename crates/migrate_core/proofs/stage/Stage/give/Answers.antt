@@ -1,6 +1,6 @@
 use Rattle.std.proofs.Common.{◌≡◌, subst, sym}
 use Rattle.std.specs.Prelude.{IfOk, IfSome, Some}
-use Rattle.flow.specs.Standing.{next_of}
+use Rattle.mount_model.specs.Standing.{next_of}
 use Rattle.migrate_core.specs.declared.stage.Stage.{Stage}
 use Rattle.migrate_core.specs.Stages.{migrating}
 use Rattle.migrate_core.proofs.stage.Stage.give.Goals as goal

@@ -1,6 +1,6 @@
 use Rattle.std.proofs.Common.{◌≡◌, Bool, sym, subst}
 use Rattle.std.specs.Prelude.{◌↔◌, IsTrue}
-use Rattle.flow.specs.Standing.{rest_of, IsOver}
+use Rattle.mount_model.specs.Standing.{rest_of, IsOver}
 use Rattle.opening_flow.specs.OpeningStages.{opening_standing}
 use Rattle.opening_flow.specs.Parts.{parted}
 use Rattle.opening_flow.proofs.Ending.{ended_or_calls}

@@ -1,6 +1,6 @@
 use Rattle.std.proofs.Common.{rules, ◌≡◌, Some, subst}
 use Rattle.std.specs.Prelude.{IfSome}
-use Rattle.flow.specs.Standing.{next_of}
+use Rattle.mount_model.specs.Standing.{next_of}
 use Rattle.opening_flow.specs.declared.parts.Part.{Part}
 use Rattle.opening_flow.specs.OpeningStages.{opening_standing, opening_left}
 use Rattle.opening_flow.specs.Parts.{parted}

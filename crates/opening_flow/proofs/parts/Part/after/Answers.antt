@@ -1,8 +1,8 @@
 use Rattle.std.proofs.Common.{◌≡◌, Option, ap, sym, ◌∙◌}
-use Rattle.flow.specs.Standing.{ready, replied, rest_of}
-use Rattle.flow.specs.Composed.{calling}
+use Rattle.mount_model.specs.Standing.{ready, replied, rest_of}
+use Rattle.mount_model.specs.Composed.{calling}
 use Rattle.mount_model.specs.declared.call.Call.{Call}
-use Rattle.flow.specs.Replies.{on_ok}
+use Rattle.mount_model.specs.FlowReplies.{on_ok}
 use Rattle.gather_flow.specs.Gathering.{gather_rest}
 use Rattle.opening_flow.specs.declared.parts.Part.{Part}
 use Rattle.opening_flow.specs.Opening.{reads_as}

@@ -1,6 +1,6 @@
 use Rattle.std.proofs.Common.{◌≡◌, Some, sym, subst}
 use Rattle.std.specs.Prelude.{IfOk, IfSome}
-use Rattle.flow.specs.Standing.{next_of}
+use Rattle.mount_model.specs.Standing.{next_of}
 use Rattle.opening_flow.specs.declared.parts.Part.{Part}
 use Rattle.opening_flow.specs.Parts.{parted}
 use Rattle.opening_flow.proofs.parts.Part.give.Goals as goal

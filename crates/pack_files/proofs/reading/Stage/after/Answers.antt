@@ -1,13 +1,13 @@
 use Rattle.std.proofs.Common.{◌≡◌, ℕ, true, ◌∙◌, ap, sym, List, Result}
-use Rattle.flow.specs.declared.stuck.Stuck.{Stuck}
+use Rattle.mount_model.specs.declared.stuck.Stuck.{Stuck}
 use Rattle.mount_model.specs.declared.call.Call.{Call}
 use Rattle.mount_model.specs.declared.reply.Reply.{Reply}
-use Rattle.flow.specs.Standing.{Standing, ready, rest_of, replied}
+use Rattle.mount_model.specs.Standing.{Standing, ready, rest_of, replied}
 use Rattle.index_reader.specs.ReadingStages.{read_standing}
 use Rattle.pack_files.specs.declared.reading.Stage.{Stage}
 use Rattle.pack_files.specs.Scanning.{after_read}
-use Rattle.flow.specs.Composed.{is_awaiting, then_on}
-use Rattle.flow.proofs.Composing.{reply_then}
+use Rattle.mount_model.specs.Composed.{is_awaiting, then_on}
+use Rattle.mount_model.proofs.Flows.Composing.{reply_then}
 use Rattle.pack_files.specs.Stages.{is_underway, stage_standing}
 use Rattle.pack_files.proofs.Chunks.{stands_so}
 use Rattle.pack_files.proofs.reading.Stage.after.Goals as goal

@@ -1,10 +1,10 @@
 use Rattle.std.proofs.Common.{◌∙◌, ap, sym}
-use Rattle.flow.specs.Standing.{rest_of}
+use Rattle.mount_model.specs.Standing.{rest_of}
 use Rattle.index_reader.specs.ReadingStages.{read_standing}
 use Rattle.pack_files.specs.declared.reading.Stage.{Stage}
 use Rattle.pack_files.specs.Scanning.{after_read}
 use Rattle.pack_files.specs.Stages.{stage_standing}
-use Rattle.flow.proofs.Composing.{same_rest}
+use Rattle.mount_model.proofs.Flows.Composing.{same_rest}
 use Rattle.pack_files.proofs.reading.Stage.asked.Goals as goal
 
 pub returns-in-Ok-clause-rest : goal.returns-in-Ok-clause-rest

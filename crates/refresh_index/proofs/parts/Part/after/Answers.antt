@@ -1,6 +1,6 @@
 use Rattle.std.proofs.Common.{◌≡◌, Option, ap, sym, ◌∙◌}
-use Rattle.flow.specs.Standing.{ready, replied, rest_of}
-use Rattle.flow.specs.Composed.{calling}
+use Rattle.mount_model.specs.Standing.{ready, replied, rest_of}
+use Rattle.mount_model.specs.Composed.{calling}
 use Rattle.mount_model.specs.declared.call.Call.{Call}
 use Rattle.gather_flow.specs.Gathering.{gather_rest}
 use Rattle.refresh_index.specs.declared.parts.Part.{Part}

@@ -1,6 +1,6 @@
 use Rattle.std.proofs.Common.{◌≡◌, Some, sym, subst}
 use Rattle.std.specs.Prelude.{IfOk, IfSome}
-use Rattle.flow.specs.Standing.{next_of}
+use Rattle.mount_model.specs.Standing.{next_of}
 use Rattle.refresh_index.specs.declared.parts.Part.{Part}
 use Rattle.refresh_index.specs.Parts.{parted}
 use Rattle.refresh_index.proofs.parts.Part.give.Goals as goal

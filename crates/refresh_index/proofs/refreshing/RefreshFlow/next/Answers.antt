@@ -1,6 +1,6 @@
 use Rattle.std.proofs.Common.{rules, ◌≡◌, Some, subst}
 use Rattle.std.specs.Prelude.{IfSome}
-use Rattle.flow.specs.Standing.{next_of}
+use Rattle.mount_model.specs.Standing.{next_of}
 use Rattle.refresh_index.specs.declared.parts.Part.{Part}
 use Rattle.refresh_index.specs.RefreshStages.{refresh_standing, refresh_left}
 use Rattle.refresh_index.specs.Parts.{parted}

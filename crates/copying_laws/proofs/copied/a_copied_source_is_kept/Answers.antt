@@ -1,5 +1,0 @@
-use Rattle.copying_laws.proofs.Copying.{copied_kept}
-use Rattle.copying_laws.proofs.copied.a_copied_source_is_kept.Goals as goal
-
-pub returns : goal.returns
-returns c = copied_kept c.what_is_kept_stays_kept.ensures

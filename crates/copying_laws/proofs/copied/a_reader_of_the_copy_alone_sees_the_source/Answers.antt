@@ -1,5 +1,0 @@
-use Rattle.copying_laws.proofs.Readers.{sees}
-use Rattle.copying_laws.proofs.copied.a_reader_of_the_copy_alone_sees_the_source.Goals as goal
-
-pub returns : goal.returns
-returns c = sees c.what_is_kept_stays_kept.ensures

@@ -1,3 +1,0 @@
--- What other crates may cite of this crate's proofs.
-pub use Rattle.flow.proofs.Running.{RunsInTwo, runs_done, runs_in_two, runs_next}
-pub use Rattle.flow.proofs.NameLemmas.{meta_in-found, meta_in-is, trunc_in-found, trunc_in-is, open_in-found, open_in-is}

@@ -1,5 +1,0 @@
-pub mod Facts
-mod Running
-pub mod Composing
-pub mod NameLemmas
-pub mod OrderLemmas

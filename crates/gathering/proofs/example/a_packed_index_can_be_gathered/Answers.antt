@@ -1,5 +1,0 @@
-use Rattle.gathering.proofs.Samples.PackSample.{gathers_packed}
-use Rattle.gathering.proofs.example.a_packed_index_can_be_gathered.Goals as goal
-
-pub returns : goal.returns
-returns c = gathers_packed

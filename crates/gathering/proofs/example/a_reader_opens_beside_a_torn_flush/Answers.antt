@@ -1,6 +1,0 @@
-use Rattle.gathering.proofs.Samples.Sample.{gathering, lists_truncs, later}
-use Rattle.gathering.proofs.Samples.SampleReader.{start, cut, beside_torn_flush}
-use Rattle.gathering.proofs.example.a_reader_opens_beside_a_torn_flush.Goals as goal
-
-pub returns : goal.returns
-returns c = (start, gathering, lists_truncs, later, cut, beside_torn_flush)

@@ -1,5 +1,0 @@
-use Rattle.gathering.proofs.Logs.Readable.{gathered_follow}
-use Rattle.gathering.proofs.readers.gathered_entries_are_in_order.Goals as goal
-
-pub returns : goal.returns
-returns c = gathered_follow

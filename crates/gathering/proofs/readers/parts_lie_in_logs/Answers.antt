@@ -1,5 +1,0 @@
-use Rattle.gathering.proofs.OpenReaders.Parts.{parts_in_logs}
-use Rattle.gathering.proofs.readers.parts_lie_in_logs.Goals as goal
-
-pub returns : goal.returns
-returns c = parts_in_logs

@@ -1,0 +1,15 @@
+use Rattle.std.proofs.Common.{arith}
+use Rattle.writer_flow.specs.Opening.{open_program}
+use Rattle.lone_flow.proofs.SmallReads.Broken.{begins_so}
+use Rattle.lone_flow.proofs.SmallReads.Freely.{asks_so, makes_so}
+use Rattle.lone_flow.proofs.SmallPuts.Writers.{open_free}
+use Rattle.lone_flow.proofs.packing.open_writer.Goals as goal
+
+pub drive_freely-requires : goal.drive_freely-requires
+drive_freely-requires g c = record { free = asks_so _ _ c.new.ensures (open_free c.args.name 0 64 (omega arith) (omega arith)); fine = c.requires }
+
+pub returns-clause-makes : goal.returns-clause-makes
+returns-clause-makes g c = makes_so c.drive_freely.result _ (open_program c.args.name 0 64) c.args.mount.now c.drive_freely.new.mount c.new.ensures c.drive_freely.ensures.drives
+
+pub returns-clause-broken_off : goal.returns-clause-broken_off
+returns-clause-broken_off g c = begins_so c.drive_freely.result _ (open_program c.args.name 0 64) c.args.mount.now c.drive_freely.new.mount c.new.ensures c.drive_freely.ensures.broken_off

@@ -1,4 +1,0 @@
-pub mod Marks
-pub mod Container
-pub mod Shape
-pub mod Named

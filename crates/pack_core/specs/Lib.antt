@@ -1,5 +1,0 @@
-pub mod Free
-pub mod Looking
-pub mod Naming
-pub mod Scans
-pub mod Unpacking

@@ -1,5 +1,0 @@
-pub mod Beginning
-pub mod Putting
-pub mod Settling
-pub mod Packing
-pub mod Calling

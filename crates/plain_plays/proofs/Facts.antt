@@ -1,0 +1,2 @@
+-- What other crates may cite of this crate's proofs.
+pub use Rattle.plain_plays.proofs.OverStores.{IsBroken, bare_or_mounts, no_fault, plays_over}

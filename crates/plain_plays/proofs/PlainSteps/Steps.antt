@@ -1,0 +1,14 @@
+pub mod Others
+pub mod Leaving
+pub mod Rooms
+pub mod Alone
+pub mod Owners
+pub mod Keeping
+pub mod Leave
+pub mod Making
+pub mod Floors
+pub mod Entered
+pub mod Joining
+pub mod Begun
+pub mod Rising
+pub mod AnyMount

@@ -1,0 +1,12 @@
+pub mod Asking
+pub mod Beginning
+pub mod Calls
+pub mod Mirrors
+pub mod Opens
+pub mod OverStores
+pub mod Plainly
+pub mod Readers
+pub mod Saying
+pub mod Served
+pub mod Stepping
+pub mod Tops

@@ -1,0 +1,16 @@
+//! A play's lines are what the plain machine says of its script, where nothing fails.
+//!
+//! It owns the laws that each statement is a step of the plain machine, that an open writer is served, and when not, and the law that joins the
+//! steps to a whole play. There is no code in it.
+#![tactic(auto)]
+
+mod laws;
+mod plain_laws;
+
+pub use laws::plays_are_plain;
+pub use plain_laws::{
+    flattenings_are_steps, listings_are_steps, machines_begin_with_mounts, open_writers_are_served,
+    openings_are_served, reader_statements_are_steps, recoveries_are_steps, tellings_are_steps,
+    truncates_and_renames_are_steps, truncates_take_the_next_stamp, writer_statements_are_steps,
+    writers_are_plain,
+};

@@ -1,0 +1,32 @@
+-- Runs that print what a plain machine says.
+use Rattle.std.specs.Prelude.{ℕ, ◌≡◌, List, Some}
+use Rattle.edge_io.specs.Source.{Given}
+use Rattle.command_line.specs.Commands.{IsCommand}
+use Rattle.command_line.specs.declared.commands.Command.{Command}
+use Rattle.command_line.specs.declared.commands.Command.TheVariants.{Play}
+use Rattle.script_lang.specs.Grammar.{IsScript}
+use Rattle.script_lang.specs.declared.line.Line.{Line}
+use Rattle.script_lang.specs.declared.script.Script.{Script}
+use Rattle.plain_plays.specs.OverStores.{TellsPlainly}
+use Rattle.program_ends.specs.Ends.{Ends}
+use Rattle.program_ends.specs.Outcomes.{status_of}
+use Rattle.program_ends.specs.Output.{IsPrinted}
+use Rattle.plfs_program.specs.Commands.{IsPlanned}
+use Rattle.plfs_program.specs.Playing.{IsPlayedAs}
+use Rattle.plfs_program.specs.Showing.{Shows, all_lines, shows_of}
+use Rattle.plfs_program.specs.Ways.{by_turns}
+use Rattle.plfs_program.specs.declared.commands.Plan.{Plan}
+
+-- The words ask that this script be played by turns, and that this be shown of its lines. It is the one that the input's bytes are, or that of a command's plan.
+pub data AskToPlay (words : List (List ℕ)) (given : Given) (script : Script) (shows : Shows) : Type 0 where
+  of_input : (bytes : List ℕ) → IsCommand words Play → given.left ≡ Some bytes → IsScript bytes script → shows ≡ all_lines → AskToPlay words given script shows
+  of_plan : (command : Command) (plan : Plan) → IsCommand words command → IsPlanned command plan → script ≡ plan.script → shows ≡ shows_of plan.shown → AskToPlay words given script shows
+
+-- The script was played by turns. What is shown of its lines was printed whole, and they decide the status. If the script has no `turn` and no `stop` lines, each
+-- plain machine that begins over the store says these lines.
+pub record PrintsPlainly (script : Script) (shows : Shows) (e : Ends) (status : ℕ) : Type 0 where
+  pub lines : List Line
+  pub are : IsPlayedAs by_turns script lines e
+  pub plain : TellsPlainly script e.times e.stored lines are.after
+  pub printed : IsPrinted (shows.text lines) e.taking e.taking_after
+  pub decide : status ≡ status_of (shows.decide lines)

@@ -1,0 +1,5 @@
+mod Copyings
+mod ImportTroubles
+pub mod Imports
+pub mod PutCourses
+mod Statuses

@@ -1,0 +1,15 @@
+//! Several processes that one engine serves, by pairs of named pipes in a folder.
+//!
+//! The crate owns the threads that read what processes ask and write what they are answered, and the order in which their frames go to the engine.
+//! `shared_frames` says whose an answer is, and `frame_streams` where a frame ends. What the system's pipes do is trusted, as is what
+//! threads do beside each other: no clause speaks of it.
+#![tactic(auto)]
+
+mod board;
+mod door;
+mod process;
+mod streams;
+
+pub use board::Board;
+pub use door::{Door, open_door};
+pub use streams::{Answers, Requests};

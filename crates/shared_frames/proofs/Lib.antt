@@ -1,0 +1,4 @@
+mod Cutting
+mod Moving
+mod Order
+mod Spelling

@@ -1,4 +1,0 @@
-mod Coming
-mod Safety
-mod Works
-pub mod Facts

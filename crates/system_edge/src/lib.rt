@@ -1,0 +1,23 @@
+//! What a run of the program meets of the system: the name and the words that it was called with, the standard streams, the folders of ROOT
+//! and their locks, files that are read in the place of standard input, and what is shown and remembered of its streams.
+//!
+//! The crate owns no rule of what lies in a folder. It stands on `store_folder`, whose stores it opens on the folders.
+#![tactic(auto)]
+
+mod amount;
+mod called;
+mod folders;
+mod inputs;
+mod lock;
+mod said;
+mod spelled;
+mod standard;
+
+pub use amount::{Amount, file_length, files_length, hundredths, input_length};
+pub use called::{Called, Program, read_called};
+pub use folders::{MOST_FOLDERS, Stores, are_named, failed, folders_of, stores_of};
+pub use inputs::{Files, Input, Unopened, open_files, split_from};
+pub use lock::{Denial, Denied, Locks, lock_folders};
+pub use said::{Said, Saying};
+pub use spelled::Spelled;
+pub use standard::{INPUT, OUTPUT, Standard};
