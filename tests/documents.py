@@ -265,6 +265,15 @@ def untold_theorems(top):
                 yield f"crates/{crate}/README.md: there is no {file}"
 
 
+def strayed_names(top):
+    """What a crate's page links to by its name stands in that file."""
+    for page in sorted(top.glob("crates/*/README.md")):
+        for name, path in re.findall(r"\[`(\w+)`\]\(((?:src|specs)/[\w/]+\.(?:rt|antt))\)", page.read_text()):
+            file = page.parent / path
+            if file.exists() and not defines(file.read_text(), name, file.suffix == ".rt"):
+                yield f"{page.relative_to(top)}: it links to {name} in {path}, which has it not"
+
+
 def crowded_proofs(top):
     """Lemma files stand in folders by topic where they are many: those of proofs/, and those of each topic."""
     for proofs in sorted(top.glob("crates/*/proofs")):
@@ -389,7 +398,7 @@ def differing_versions(top):
 
 
 RULES = [long_ones, long_first_page, long_manual, broken_links, misnamed_promises, unclaused_promises, untold_crates, untold_borders, untold_laws, untold_theorems,
-         crowded_proofs, crowded_edits, unlisted_questions, dead_names, long_index, glossary,
+         strayed_names, crowded_proofs, crowded_edits, unlisted_questions, dead_names, long_index, glossary,
          differing_commands, differing_options, differing_versions]
 
 
