@@ -5,6 +5,8 @@ import os
 import re
 import shutil
 import signal
+import socket
+import struct
 import subprocess
 import time
 
@@ -191,7 +193,8 @@ def without_standard_input_nothing_is_put(trial):
 def an_input_that_fails_in_its_middle_is_status_5_and_what_came_before_is_kept(trial):
     content = trial.random.randbytes(BLOCK + 100_000)
     (trial.folder / "in").write_bytes(content)
-    for call, kept in (("1", 0), ("3", 2 * PART), (f"{BLOCK // PART + 2}", BLOCK + 100_000)):
+    # the first read asks for no byte: it shows whether any can be read
+    for call, kept in (("2", 0), ("4", 2 * PART), (f"{BLOCK // PART + 3}", BLOCK + 100_000)):
         name = f"f{call}"
         with open(trial.folder / "in", "rb") as file:
             status, out, err = run(trial, "put", name, stdin=file, **trial.watch([f"fail EIO read {call} */in"]))
@@ -199,6 +202,33 @@ def an_input_that_fails_in_its_middle_is_status_5_and_what_came_before_is_kept(t
         same("how many bytes were put", int(out.split()[1]), kept)
         gets(trial, content[:kept], name)
         same("who has it open", os.listdir(trial.root / name / "openhosts"), [])
+
+
+@check
+def an_input_over_a_network_that_is_reset_in_its_middle_is_status_5_and_what_came_before_is_kept(trial):
+    content = trial.random.randbytes(BLOCK + 100_000)
+    sender = socket.socket()
+    with socket.socket() as server:
+        server.bind(("127.0.0.1", 0))
+        server.listen()
+        sender.connect(server.getsockname())
+        receiver, _ = server.accept()
+    with receiver:
+        started = start(trial, "put", "f", stdin=receiver)
+    sender.sendall(content)
+    end = time.monotonic() + SECONDS
+    while BLOCK not in [it.stat().st_size for it in (trial.root / "f" / "hostdir.0").glob("log.0.*")]:
+        true("the first block was not written in time", time.monotonic() < end)
+        time.sleep(0.01)
+    # With a linger of no time the connection isn't ended but reset.
+    sender.setsockopt(socket.SOL_SOCKET, socket.SO_LINGER, struct.pack("ii", 1, 0))
+    sender.close()
+    out, err = started.communicate(timeout=SECONDS)
+    same(f"the end ({out!r})", (started.returncode, err), (5, b"plfs: standard input: read: Connection reset by peer (os error 104)\n"))
+    kept = int(out.split()[1])
+    true(f"{kept} bytes were put", BLOCK <= kept <= len(content))
+    gets(trial, content[:kept])
+    same("who has it open", os.listdir(trial.root / "f" / "openhosts"), [])
 
 
 @check

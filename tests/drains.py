@@ -181,8 +181,9 @@ def each_failed_call_of_a_drain_is_told_as_a_fault_with_its_folder_and_the_next_
     for kept, target, words, call, kind, number, what in calls_of_a_drain(trial):
         ended, _ = trial.watched("", f"fail EIO {kind} {number} {trial.folder}*", UNSYNCED, words=words)
         same(f"{what}: the end", (ended.status, ended.out), (4, "0 fault\n"))
-        folder = target if call.path.startswith(str(target)) else trial.root
-        true(f"{what}: {ended.err!r}", ended.err.startswith(f"plfs: {folder}") and is_reason(ended.err))
+        # (what holds both folders is looked at for each)
+        folders = [it for it in (target, trial.root) if call.path.startswith(str(it))] or [target, trial.root]
+        true(f"{what}: {ended.err!r}", any(ended.err.startswith(f"plfs: {it}") for it in folders) and is_reason(ended.err))
         drains(trial, target, None, **trial.watch([UNSYNCED], "after"))
         same(f"{what}: the droppings", droppings(target), droppings(kept))
 

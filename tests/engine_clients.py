@@ -1,5 +1,8 @@
 """The clients that other programs write through: in C, Fortran and Python, as they are built and run."""
 
+import copy
+import errno
+import gc
 import io
 import os
 import resource
@@ -119,23 +122,31 @@ def a_python_program_is_restarted(trial):
     same("the copy", plfs(trial, "cat", "state.copy"), plfs(trial, "cat", "state"))
 
 
+# What a program with numpy does.
+NUMPY = """
+import sys
+import numpy, plfs
+grid = numpy.arange(300_000, dtype="f8").reshape(300, 1000)
+with plfs.Mount(sys.argv[1]) as fs:
+    with fs.open("grid", "wb") as out:
+        numpy.save(out, grid)
+    with fs.open("pair", "wb") as out:
+        numpy.savez(out, grid=grid, row=grid[3])
+    with fs.open("grid", "rb") as file:
+        print((numpy.load(file) == grid).all())
+    with fs.open("pair", "rb") as file:
+        pair = numpy.load(file)
+        print((pair["grid"] == grid).all() and (pair["row"] == grid[3]).all())
+"""
+
+
 @check
 def what_numpy_saves_it_loads(trial):
-    try:
-        import numpy
-    except ImportError:
-        raise Skipped("no numpy") from None
-    grid = numpy.arange(300_000, dtype="f8").reshape(300, 1000)
-    with client(trial).Mount(trial.root, engine=engine(trial)) as fs:
-        with fs.open("grid", "wb") as out:
-            numpy.save(out, grid)
-        with fs.open("pair", "wb") as out:
-            numpy.savez(out, grid=grid, row=grid[3])
-        with fs.open("grid", "rb") as file:
-            true("another grid", (numpy.load(file) == grid).all())
-        with fs.open("pair", "rb") as file:
-            pair = numpy.load(file)
-            true("another pair", (pair["grid"] == grid).all() and (pair["row"] == grid[3]).all())
+    for python in dict.fromkeys((sys.executable, "/usr/bin/python3")):
+        if os.access(python, os.X_OK) and ran(trial, [python, "-c", "import numpy"])[0] == 0:
+            same("what is as it was saved", ran(trial, [python, "-c", NUMPY, trial.root]), (0, "True\nTrue\n", ""))
+            return
+    raise Skipped("no numpy")
 
 
 @check
@@ -225,6 +236,54 @@ def several_handles_of_one_engine_write_one_file_that_is_read_meanwhile(trial):
     same("the file", plfs(trial, "cat", "f"), b"".join(block(k) for k in range(threads * each)))
 
 
+@check
+def an_error_of_the_python_client_is_one_of_the_system_and_names_the_file(trial):
+    plfs_client = client(trial)
+    with plfs_client.Mount(trial.root, engine=engine(trial)) as fs:
+        for name in "fg":
+            fs.open(name, "wb").close()
+        wrongs = [
+            (lambda: fs.open("away"), FileNotFoundError, errno.ENOENT, "away", None),
+            (lambda: fs.stat(b"away"), FileNotFoundError, errno.ENOENT, b"away", None),
+            (lambda: fs.rename("f", "g"), FileExistsError, errno.EEXIST, "f", "g"),
+            (lambda: fs.open("a/b", "wb"), plfs_client.Error, errno.EINVAL, "a/b", None),
+            (lambda: fs.open("f", "rb", 17), plfs_client.Error, errno.EINVAL, "f", None),
+        ]
+        def checked(call, kind, number, name, to):
+            try:
+                call()
+                raise Wrong("a call that can't be was made")
+            except OSError as error:
+                for it in (error, copy.copy(error)):
+                    same("the error", (isinstance(it, kind), isinstance(it, plfs_client.Error), it.errno, it.filename, it.filename2), (True, True, number, name, to))
+                true(f"it says {error}", repr(name) in str(error))
+
+        for wrong in wrongs:
+            checked(*wrong)
+        with fs.open("f", "wb"):
+            checked(lambda: fs.trunc("f", 0), plfs_client.Error, errno.EBUSY, "f", None)
+
+
+@check
+def a_mount_of_the_python_client_that_is_dropped_is_closed(trial):
+    plfs_client = client(trial)
+    fs = plfs_client.Mount(trial.root, engine=engine(trial))
+    file = fs.open("f", "wb")
+    file.write(b"kept")
+    started = fs.engine
+    if not os.fork():  # a copy of the mount ends with its process, and the mount goes on
+        fs = file = None
+        os._exit(0)
+    os.wait()
+    del fs
+    file.write(b" on")
+    same("the engine of a file that is there", started.poll(), None)
+    del file
+    gc.collect()
+    same("how the engine ended", started.poll(), 0)
+    same("the file", plfs(trial, "cat", "f"), b"kept on")
+
+
 # ---- the client in C
 
 
@@ -256,6 +315,24 @@ def each_call_of_the_c_client_and_its_errors(trial):
 
 
 @check
+def threads_of_a_c_program_have_requests_on_their_way_at_once_and_each_its_own_answers(trial):
+    program = built(trial, trial.top / "clients" / "tests" / "threads.c")
+    same("what the threads say", ran(trial, [program, trial.root, 12, 160]), (0, "", ""))
+
+
+@check
+def no_thread_waits_for_an_engine_that_was_killed(trial):
+    program = built(trial, trial.top / "clients" / "tests" / "threads.c")
+    for number in range(12):
+        root = trial.folder / f"root{number}"
+        root.mkdir()
+        status, out, _ = ran(trial, [program, root, 1 + number, 0, "kill"])
+        if status == 77:
+            raise Skipped("the system doesn't name a thread's children")
+        same("what the threads say", (status, out), (0, ""))
+
+
+@check
 def the_c_client_is_clean_under_sanitizers(trial):
     options = ["-fsanitize=address,undefined", "-fno-sanitize-recover=all"]
     probe = trial.folder / "probe.c"
@@ -265,6 +342,8 @@ def the_c_client_is_clean_under_sanitizers(trial):
     if subprocess.run(["cc", *options, probe, "-o", trial.folder / "probe"], stderr=subprocess.DEVNULL).returncode or subprocess.run([trial.folder / "probe"]).returncode:
         raise Skipped("no sanitizers")
     calls_are_right(trial, built(trial, trial.top / "clients" / "tests" / "calls.c", *options))
+    program = built(trial, trial.top / "clients" / "tests" / "threads.c", "-fsanitize=thread")
+    same("what the threads say", ran(trial, [program, trial.root, 6, 32]), (0, "", ""))
     program = built(trial, example(trial, "checkpoint.c"), "-fsanitize=thread")
     same("how it ends", ran(trial, [program, trial.root, "step", 64, 5000]), (0, "step: 64 blocks of 5000 bytes by 4 threads are as they were written\n", ""))
 

@@ -297,6 +297,7 @@ def what_was_told_as_synced_stands_after_kills_of_the_engine(trial):
         most = max(most, synced[0])
         shutil.rmtree(root)
     true("no client came to a sync", most > 0)
+    trial.note = f"{moment + 1} kills, with up to {most} writes told as synced"
 
 
 def is_free(root):
@@ -349,3 +350,4 @@ def what_was_told_as_synced_stands_after_kills_of_the_client(trial):
         most = max(most, synced)
         shutil.rmtree(root)
     true("no client came to a sync", most > 0)
+    trial.note = f"{moment + 1} kills, with up to {most} writes told as synced"

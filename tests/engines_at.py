@@ -28,6 +28,41 @@ with plfs.Mount() as fs, fs.open("step", "wb") as out:
             out.sync()
             print(k + 1, flush=True)
 """
+# A process of four threads, each with a writer of its own. With four others they write each eighth block.
+WRITES_BY_THREADS = """
+import sys, threading, plfs
+each, size = map(int, sys.argv[1:])
+def write(rank):
+    with fs.open("step", "wb") as out:
+        for k in range(each):
+            place = 8 * k + rank
+            out.pwrite(bytes([place % 255 + 1]) * size, place * size)
+            if k % 8 == 7:
+                out.sync()
+                print(rank, k + 1, flush=True)
+with plfs.Mount() as fs:
+    threads = [threading.Thread(target=write, args=(rank,)) for rank in range(4)]
+    for it in threads: it.start()
+    for it in threads: it.join()
+"""
+# One of the four others.
+WRITES_BESIDE = WRITES.replace("4 * k", "8 * k").replace("print(k", "print(rank, k")
+# A process that reads: for each line, with how many blocks of each writer were told as synced, it looks at all of the file.
+READS = """
+import sys, plfs
+size = int(sys.argv[1])
+with plfs.Mount() as fs, fs.open("step", "rb") as file:
+    for line in sys.stdin:
+        told = list(map(int, line.split()))
+        file.refresh()
+        file.seek(0)
+        whole = file.readall()
+        blocks = [whole[at : at + size] for at in range(0, len(whole), size)]
+        right = lambda place: blocks[place] == bytes([place % 255 + 1]) * size
+        lost = [place for rank, count in enumerate(told) for place in range(rank, 8 * count, 8) if place >= len(blocks) or not right(place)]
+        torn = [place for place, block in enumerate(blocks) if any(block) and not right(place)]
+        print(sum(map(any, blocks)), lost, torn, flush=True)
+"""
 # A process that writes until it is killed, and tells after each sync how many blocks there are.
 WRITES_ON = """
 import plfs
@@ -87,10 +122,10 @@ def joined(trial, door):
     return plfs_client.Mount(at=door)
 
 
-def process(trial, door, code, *words):
+def process(trial, door, code, *words, **how):
     env = {**os.environ, "PLFS_AT": str(door), "PYTHONPATH": str(trial.top / "clients" / "python"), "PYTHONDONTWRITEBYTECODE": "1"}
     python = next(it for it in (sys.executable, "/usr/bin/python3") if os.access(it, os.X_OK))
-    return subprocess.Popen([python, "-c", code, *map(str, words)], env=env, stdout=subprocess.PIPE, stderr=subprocess.PIPE)
+    return subprocess.Popen([python, "-c", code, *map(str, words)], env=env, stdout=subprocess.PIPE, stderr=subprocess.PIPE, **how)
 
 
 def why_of(trial, call):
@@ -152,6 +187,39 @@ def four_processes_write_one_checkpoint_that_another_reads_meanwhile(trial):
 
 
 @check
+def four_threads_and_four_processes_write_one_checkpoint_that_another_process_reads_meanwhile(trial):
+    each, size, told, seen = 64, 5000, [0] * 8, []
+
+    def hear(out):
+        for line in out:
+            rank, count = map(int, line.split())
+            told[rank] = count
+
+    with served(trial) as (door, _):
+        with joined(trial, door) as fs:
+            fs.open("step", "wb").close()
+        reader = process(trial, door, READS, size, stdin=subprocess.PIPE)
+        writers = [process(trial, door, WRITES_BY_THREADS, each, size), *(process(trial, door, WRITES_BESIDE, rank, each, size) for rank in range(4, 8))]
+        hearers = [threading.Thread(target=hear, args=(it.stdout,)) for it in writers]
+        for it in hearers:
+            it.start()
+        while len(seen) < 3 or any(it.poll() is None for it in writers):
+            reader.stdin.write(" ".join(map(str, told)).encode() + b"\n")
+            reader.stdin.flush()
+            count, _, faults = reader.stdout.readline().decode().partition(" ")
+            same("blocks that are lost, and torn", faults, "[] []\n")
+            seen.append(int(count))
+        for it in hearers:
+            it.join()
+        same("how the writers end", [(it.wait(), it.stderr.read()) for it in writers], [(0, b"")] * 5)
+        same("how the reader ends", (reader.communicate(timeout=SECONDS), reader.returncode), ((b"", b""), 0))
+        same("what was told", told, [each] * 8)
+    same("the file", plfs(trial, "cat", "step"), b"".join(bytes([place % 255 + 1]) * size for place in range(8 * each)))
+    has_no_dead(trial, "step")
+    trial.note = f"{len(seen)} looks, {len({it for it in seen if 0 < it < 8 * each})} of them in between"
+
+
+@check
 def programs_in_c_join_an_engine_by_the_environment(trial):
     program = built(trial, example(trial, "checkpoint.c"))
     with served(trial) as (door, _):
@@ -194,7 +262,7 @@ def an_engine_of_a_folder_ends_when_it_is_told_and_all_have_left(trial):
         with plfs_client.Mount(at=door) as fs:
             with fs.open("f", "wb") as out:
                 end(door)
-                eventually("a further process is let in", lambda: why_of(trial, lambda: plfs_client.Mount(at=door)) is not None)
+                eventually("a further process is let in", lambda: why_of(trial, lambda: plfs_client.Mount(at=door).close()) is not None)
                 out.write(b"more")
                 same("how it has ended", serving.poll(), None)
         same("how it ends", serving.wait(SECONDS), 0)
@@ -224,7 +292,7 @@ def a_signal_to_the_group_of_the_root_script_ends_its_engine_once_all_have_left(
     try:
         with joined(trial, door) as fs, fs.open("f", "wb") as out:
             os.killpg(serving.pid, signal.SIGTERM)
-            eventually("a further process is let in", lambda: why_of(trial, lambda: plfs_client.Mount(at=door)) is not None)
+            eventually("a further process is let in", lambda: why_of(trial, lambda: plfs_client.Mount(at=door).close()) is not None)
             out.write(b"more")
             same("how it has ended", serving.poll(), None)
         same("how it ends", serving.wait(SECONDS), 0)

@@ -253,7 +253,7 @@ def a_file_behind_from_that_can_not_be_had_is_told_and_nothing_is_done(trial):
     same("the end", run(trial, "put", "f", "--from", "a", "none"), (5, b"", "plfs: none: open: No such file or directory (os error 2)\n"))
     trial.is_untouched()
     (trial.folder / "b").write_bytes(bytes(100_000))
-    status, out, err = run(trial, "put", "f", "--from", "a", "b", **trial.watch(["fail EIO read 1 */b"]))
+    status, out, err = run(trial, "put", "f", "--from", "a", "b", **trial.watch(["fail EIO read 2 */b"]))
     same("the end where a read fails", (status, out.split()[:2], err), (5, [b"put", b"1"], "plfs: b: read: Input/output error (os error 5)\n"))
     gets(trial, b"a")
 

@@ -563,6 +563,7 @@ class Judge:
             need(all(w.least <= count <= w.most for w in writers if w.id == writer), "its count")
             hosts = [host for host, it in indices_in(last) if it == writer] or [0]
             need(any(len(landed_writes(last, host, writer)) == count for host in hosts), "another number of its entries is left")
+            need(all(len(landed_writes(last, w.host, writer)) == count for w in writers if w.id == writer), "another number of its entries is left under its host")
             need(count == 0 or any(w.id == writer for w in writers), "one that wrote, and no line opened it")
         for writer in alive:
             need(any(self.is_alive(t, actor.host, writer) for actor in run.actors), "one is alive that no line opened, or that was closed")

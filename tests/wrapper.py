@@ -117,6 +117,15 @@ def the_root_script_is_found_through_links(trial):
 
 
 @check
+def a_limit_on_the_sizes_of_files_ends_no_program_of_the_root_script(trial):
+    copy = Copy(trial)
+    copy.build(1)
+    place(copy.program, "#!/bin/sh\nkill -XFSZ $$\necho 'the program goes on'\n")
+    os.utime(copy.program, (10**9 + 1, 10**9 + 1))
+    is_quiet(copy.run("x"), "the program goes on\n")
+
+
+@check
 def help_and_version_are_told_without_a_program(trial):
     copy = Copy(trial)
     told = copy.run("--help")

@@ -4,9 +4,9 @@
  * PLFS_SERVE of the environment names, or else the plfs_serve on PATH. A folder belongs to one engine at a time, so a program
  * mounts it once and shares the mount.
  *
- * Threads: each function may be called by any thread, with any mount and any handle. One lock a mount orders the calls, and that
- * order is the one that all see. A handle or a mount that is being closed must not be used by another thread. Threads that write
- * one file at once each open a writer of their own.
+ * Threads: each function may be called by any thread, with any mount and any handle. Requests are sent in one order, which is the
+ * one that all see, and a thread sends its own while others wait for their answers. A handle or a mount that is being closed must
+ * not be used by another thread. Threads that write one file at once each open a writer of their own.
  *
  * Processes: a child of fork must not use its parent's mounts. It has their pipes until it ends or starts another program, and
  * plfs_unmount of the parent waits that long. A program that waits for all of its children, or ignores SIGCHLD, takes the engine's

@@ -7,6 +7,7 @@
 #include <fcntl.h>
 #include <limits.h>
 #include <poll.h>
+#include <semaphore.h>
 #include <signal.h>
 #include <spawn.h>
 #include <stdatomic.h>
@@ -101,29 +102,34 @@ static int send_all(int fd, void *head, const void *bytes, size_t len) {
     return failed;
 }
 
-static int take_all(int fd, void *into, size_t n) {
+/* Takes the next n bytes of answers: those that were read ahead first. */
+static int take_all(struct plfs_engine *engine, void *into, size_t n) {
     char *to = into;
     while (n > 0) {
-        ssize_t got = read(fd, to, n);
-        if (got < 0 && errno == EINTR) continue;
-        if (got <= 0) return -1;
-        to += got;
-        n -= (size_t)got;
+        size_t part = engine->end - engine->begin;
+        if (part > 0) {
+            if (part > n) part = n;
+            memcpy(to, engine->ahead + engine->begin, part);
+            engine->begin += part;
+        } else {
+            const int is_long = n >= PLFS_AHEAD;
+            ssize_t got = read(engine->from, is_long ? (void *)to : engine->ahead, is_long ? n : PLFS_AHEAD);
+            if (got < 0 && errno == EINTR) continue;
+            if (got <= 0) return -1;
+            engine->begin = 0;
+            engine->end = is_long ? 0 : (size_t)got;
+            part = is_long ? (size_t)got : 0;
+        }
+        to += part;
+        n -= part;
     }
     return 0;
 }
 
-/* Takes the n bytes that name a damaged item, and keeps those that there is room for. */
-static int take_item(struct plfs_engine *engine, uint64_t n) {
-    engine->item_len = n < PLFS_ITEM ? (size_t)n : PLFS_ITEM;
-    if (take_all(engine->from, engine->item, engine->item_len)) return -1;
-    char unwanted[PLFS_ITEM];
-    for (n -= engine->item_len; n > 0;) {
-        size_t part = n < PLFS_ITEM ? (size_t)n : PLFS_ITEM;
-        if (take_all(engine->from, unwanted, part)) return -1;
-        n -= part;
-    }
-    return 0;
+/* Whether an answer was read ahead with all of its bytes. */
+static int is_ahead(const struct plfs_engine *engine) {
+    size_t n = engine->end - engine->begin;
+    return n >= ANSWER && n - ANSWER >= get(engine->ahead + engine->begin + 24);
 }
 
 /* ---- requests */
@@ -141,12 +147,42 @@ static int error_of(enum plfs_kind kind, uint64_t status, uint64_t value) {
     }
 }
 
+/* A request that was sent, and the thread that waits for its answer. */
+struct plfs_waiting {
+    const struct plfs_asked *asked;
+    uint64_t number;
+    int is_told, error;
+    sem_t woken; /* it was told, or is to take the answers. Behind that nobody else looks at any of this */
+    struct plfs_waiting *next;
+};
+
+/* What an answer tells. */
+struct told {
+    int error;
+    uint64_t value;
+    size_t item_len;
+    char item[PLFS_ITEM];
+};
+
+/* Takes the n bytes that name a damaged item, and keeps those that there is room for. */
+static int take_item(struct plfs_engine *engine, struct told *told, uint64_t n) {
+    told->item_len = n < PLFS_ITEM ? (size_t)n : PLFS_ITEM;
+    if (take_all(engine, told->item, told->item_len)) return -1;
+    char unwanted[PLFS_ITEM];
+    for (n -= told->item_len; n > 0;) {
+        size_t part = n < PLFS_ITEM ? (size_t)n : PLFS_ITEM;
+        if (take_all(engine, unwanted, part)) return -1;
+        n -= part;
+    }
+    return 0;
+}
+
 /* Takes an answer's bytes into memory of their own. */
 static int take_made(struct plfs_engine *engine, char **made, uint64_t len) {
     char *memory = len < PTRDIFF_MAX ? malloc((size_t)len + 1) : NULL;
     if (!memory) return PLFS_NO_MEMORY;
     memory[len] = 0;
-    if (take_all(engine->from, memory, (size_t)len)) {
+    if (take_all(engine, memory, (size_t)len)) {
         free(memory);
         return PLFS_GONE;
     }
@@ -155,11 +191,11 @@ static int take_made(struct plfs_engine *engine, char **made, uint64_t len) {
 }
 
 /* Takes an answer's bytes where they are wanted. */
-static int take_payload(struct plfs_engine *engine, const struct plfs_asked *a, uint64_t status, uint64_t len) {
-    if (status == DAMAGED) return take_item(engine, len) ? PLFS_GONE : 0;
+static int take_payload(struct plfs_engine *engine, const struct plfs_asked *a, struct told *told, uint64_t status, uint64_t len) {
+    if (status == DAMAGED) return take_item(engine, told, len) ? PLFS_GONE : 0;
     if (status == MADE && a->made) return take_made(engine, a->made, len);
     if (len > a->room) return PLFS_STRANGE;
-    return take_all(engine->from, a->into, (size_t)len) ? PLFS_GONE : 0;
+    return take_all(engine, a->into, (size_t)len) ? PLFS_GONE : 0;
 }
 
 /* Waits for the first answer of an engine that was joined. Before that engine opens the pipe nothing comes, and no end either. Its end alone says
@@ -173,37 +209,129 @@ static int wait_in(const struct plfs_engine *engine) {
     return ends[1].revents ? PLFS_GONE : PLFS_NO_HANDLE;
 }
 
-/* Sends the request, and takes its answer. */
-static int exchange(struct plfs_engine *engine, const struct plfs_asked *a) {
-    unsigned char head[HEAD], answer[ANSWER];
-    const uint64_t number = ++engine->number, numbers[HEAD / 8] = {a->kind, a->actor, number, a->place, a->extent, a->len};
-    for (int i = 0; i < HEAD / 8; i++) put(head + 8 * i, numbers[i]);
-    if (send_all(engine->to, head, a->bytes, a->len)) return PLFS_GONE;
+/* Takes the answer to this request, which is the oldest. Answers its error. */
+static int take_answer(struct plfs_engine *engine, const struct plfs_waiting *waiting, struct told *told) {
+    const struct plfs_asked *a = waiting->asked;
+    unsigned char answer[ANSWER];
     int kept_out = engine->door >= 0 ? wait_in(engine) : 0;
     if (kept_out) return kept_out;
-    if (take_all(engine->from, answer, ANSWER)) return PLFS_GONE;
-    uint64_t status = get(answer + 8), value = get(answer + 16), len = get(answer + 24);
-    int error = get(answer) == number ? error_of(a->kind, status, value) : PLFS_STRANGE;
-    if (error == PLFS_STRANGE || (error == 0 && a->kind == PLFS_READ && value != len)) return PLFS_STRANGE;
-    int failed = take_payload(engine, a, status, len);
-    if (failed) return failed;
-    if (error == PLFS_DAMAGED) engine->place = value;
-    if (error == 0 && a->out) *a->out = value;
+    if (take_all(engine, answer, ANSWER)) return PLFS_GONE;
+    uint64_t status = get(answer + 8), len = get(answer + 24);
+    told->value = get(answer + 16);
+    int error = get(answer) == waiting->number ? error_of(a->kind, status, told->value) : PLFS_STRANGE;
+    if (error == PLFS_STRANGE || (error == 0 && a->kind == PLFS_READ && told->value != len)) return PLFS_STRANGE;
+    int failed = take_payload(engine, a, told, status, len);
+    return failed ? failed : error;
+}
+
+/* Takes the oldest request out, and tells it what came of it. */
+static void tell(struct plfs_engine *engine, const struct plfs_waiting *own, int error) {
+    struct plfs_waiting *waiting = engine->first;
+    engine->first = waiting->next;
+    waiting->error = error;
+    waiting->is_told = 1;
+    if (waiting != own) sem_post(&waiting->woken);
+}
+
+/* Tells the oldest request what its answer says. Behind an error that leaves the pipes out of step no other answer is taken. */
+static void tell_answer(struct plfs_engine *engine, const struct plfs_waiting *own, const struct told *told) {
+    const struct plfs_asked *a = engine->first->asked;
+    if (told->error == PLFS_DAMAGED) {
+        engine->place = told->value;
+        engine->item_len = told->item_len;
+        memcpy(engine->item, told->item, told->item_len);
+    }
+    if (told->error == 0 && a->out) *a->out = told->value;
+    if (told->error == PLFS_NO_MEMORY || told->error >= PLFS_ENGINE_MEMORY) engine->gone = told->error == PLFS_NO_MEMORY ? PLFS_GONE : told->error;
+    tell(engine, own, told->error);
+    while (engine->gone && engine->first) tell(engine, own, engine->gone);
+}
+
+/* Takes answers until this request has its own, and those that were read ahead meanwhile. Then one of those that still wait takes them. */
+static void take_answers(struct plfs_engine *engine, const struct plfs_waiting *own) {
+    pthread_mutex_lock(&engine->lock);
+    do {
+        const struct plfs_waiting *waiting = engine->first;
+        struct told told;
+        pthread_mutex_unlock(&engine->lock);
+        told.error = take_answer(engine, waiting, &told);
+        pthread_mutex_lock(&engine->lock);
+        tell_answer(engine, own, &told);
+    } while (engine->first && (!own->is_told || is_ahead(engine)));
+    engine->is_heard = engine->first != NULL;
+    if (engine->first) sem_post(&engine->first->woken);
+    pthread_mutex_unlock(&engine->lock);
+}
+
+/* Why no further request is made: 0, or an error. */
+static int gone(struct plfs_engine *engine) {
+    pthread_mutex_lock(&engine->lock);
+    int error = engine->gone;
+    pthread_mutex_unlock(&engine->lock);
     return error;
 }
 
-/* Behind an error that leaves the pipes out of step no further request is made. */
-int plfs_engine_ask(struct plfs_engine *engine, const struct plfs_asked *asked) {
+/* Puts a request that was sent behind the others, or one that could not be sent nowhere. 0, or an error. *hears: its thread takes the answers. */
+static int wait_behind(struct plfs_engine *engine, struct plfs_waiting *own, int is_sent, int *hears) {
     pthread_mutex_lock(&engine->lock);
-    int error = engine->gone ? engine->gone : exchange(engine, asked);
-    if (!engine->gone && (error == PLFS_NO_MEMORY || error >= PLFS_ENGINE_MEMORY)) {
-        engine->gone = error == PLFS_NO_MEMORY ? PLFS_GONE : error;
+    if (!engine->gone && !is_sent) engine->gone = PLFS_GONE;
+    int error = engine->gone;
+    if (!error) {
+        if (engine->first) {
+            engine->last->next = own;
+        } else {
+            engine->first = own;
+        }
+        engine->last = own;
+        *hears = !engine->is_heard;
+        engine->is_heard = 1;
     }
     pthread_mutex_unlock(&engine->lock);
     return error;
 }
 
+static int send_request(struct plfs_engine *engine, struct plfs_waiting *own, int *hears) {
+    const struct plfs_asked *a = own->asked;
+    unsigned char head[HEAD];
+    int error = gone(engine);
+    if (error) return error;
+    own->number = ++engine->number;
+    const uint64_t numbers[HEAD / 8] = {a->kind, a->actor, own->number, a->place, a->extent, a->len};
+    for (int i = 0; i < HEAD / 8; i++) put(head + 8 * i, numbers[i]);
+    return wait_behind(engine, own, send_all(engine->to, head, a->bytes, a->len) == 0, hears);
+}
+
+int plfs_engine_ask(struct plfs_engine *engine, const struct plfs_asked *asked) {
+    struct plfs_waiting own = {.asked = asked};
+    int hears = 0;
+    sem_init(&own.woken, 0, 0);
+    pthread_mutex_lock(&engine->sending);
+    int error = send_request(engine, &own, &hears);
+    pthread_mutex_unlock(&engine->sending);
+    if (!error) {
+        while (!hears && sem_wait(&own.woken)) {}
+        if (!own.is_told) take_answers(engine, &own);
+        error = own.error;
+    }
+    sem_destroy(&own.woken);
+    return error;
+}
+
 /* ---- the process */
+
+/* Makes both locks. 0, or an error of the system. */
+static int make_locks(struct plfs_engine *engine) {
+    int failed = pthread_mutex_init(&engine->lock, NULL);
+    if (failed) return failed;
+    failed = pthread_mutex_init(&engine->sending, NULL);
+    if (failed) pthread_mutex_destroy(&engine->lock);
+    return failed;
+}
+
+static void end_locks(struct plfs_engine *engine) {
+    pthread_mutex_destroy(&engine->sending);
+    pthread_mutex_destroy(&engine->lock);
+}
 
 /* A pipe whose ends no program inherits, and neither of which has the number of a standard stream. */
 static int pipe_above(int ends[2]) {
@@ -272,10 +400,10 @@ int plfs_engine_start(struct plfs_engine *engine, const char *root, uint32_t hos
         close(to[1]);
         return PLFS_NOT_STARTED;
     }
-    int failed = pthread_mutex_init(&engine->lock, NULL);
+    int failed = make_locks(engine);
     if (!failed) {
         failed = spawn(words, to[0], from[1], &engine->process);
-        if (failed) pthread_mutex_destroy(&engine->lock);
+        if (failed) end_locks(engine);
     }
     close(to[0]);
     close(from[1]);
@@ -348,13 +476,13 @@ int plfs_engine_join(struct plfs_engine *engine, const char *folder) {
     engine->door = open_pipe(join, O_WRONLY | O_NONBLOCK); /* which fails where no engine reads it */
     if (engine->door < 0) return PLFS_NOT_STARTED;
     int error = PLFS_NOT_STARTED;
-    if (pthread_mutex_init(&engine->lock, NULL) == 0) {
+    if (make_locks(engine) == 0) {
         if (make_pair(folder, in, out, name) == 0) {
             error = enter(engine, in, out, name);
             unlink(in);
             unlink(out);
         }
-        if (error) pthread_mutex_destroy(&engine->lock);
+        if (error) end_locks(engine);
     }
     close(engine->door);
     engine->door = -1;
@@ -372,7 +500,7 @@ static int leave(struct plfs_engine *engine) {
     close(engine->to);
     while ((got = read(engine->from, unwanted, sizeof unwanted)) > 0 || (got < 0 && errno == EINTR)) {}
     close(engine->from);
-    pthread_mutex_destroy(&engine->lock);
+    end_locks(engine);
     return 0;
 }
 
@@ -385,7 +513,7 @@ int plfs_engine_end(struct plfs_engine *engine) {
     close(engine->to);
     close(engine->from); /* so no answer that nobody takes keeps it from its end */
     while ((ended = waitpid(engine->process, &status, 0)) < 0 && errno == EINTR) {}
-    pthread_mutex_destroy(&engine->lock);
+    end_locks(engine);
     if (ended < 0 || !WIFEXITED(status)) return PLFS_GONE;
     switch (WEXITSTATUS(status)) {
     case 0: return 0;

@@ -13,18 +13,30 @@ enum plfs_kind {
     PLFS_STAT, PLFS_TRUNC, PLFS_RENAME, PLFS_FLATTEN, PLFS_RECOVER, PLFS_LIST
 };
 
-enum { PLFS_ITEM = 256 };
+/* PLFS_ITEM: bytes of an item's name that are kept. PLFS_AHEAD: bytes of answers that are read ahead. */
+enum { PLFS_ITEM = 256, PLFS_AHEAD = 4096 };
 
+/* Requests are sent one behind the other, and their answers come in that order. While one thread waits for its answer others send
+ * theirs. One of those that wait takes the answers, also those of the others. */
 struct plfs_engine {
-    pthread_mutex_t lock; /* a request and its answer go under it, and so does all that follows */
-    int to, from;
-    pid_t process; /* 0 where the engine was joined */
-    int door;      /* while this process is not let in: the pipe on which it announced itself, else -1 */
-    uint64_t number;  /* of the last request */
-    int gone;         /* why no further request is made: 0, or an error */
-    size_t item_len;  /* the damage that was told last */
+    pthread_mutex_t sending; /* a request is sent under it. Who has both locks took this one first */
+    int to;
+    uint64_t number; /* of the last request */
+
+    pthread_mutex_t lock;             /* all that follows, but what only the thread that takes answers looks at */
+    struct plfs_waiting *first, *last; /* requests that were sent and have no answer, the oldest first */
+    int is_heard;                     /* a thread takes answers */
+    int gone;                         /* why no further request is made: 0, or an error */
+    size_t item_len;                  /* the damage that was told last */
     uint64_t place;
     char item[PLFS_ITEM];
+
+    int from; /* what follows is for the thread that takes answers */
+    int door; /* while this process is not let in: the pipe on which it announced itself, else -1 */
+    size_t begin, end; /* where in ahead those bytes are that were read and not taken */
+    unsigned char ahead[PLFS_AHEAD];
+
+    pid_t process; /* 0 where the engine was joined */
 };
 
 /* One request. Where an answer has bytes, they go to into, which has room for so many, or to memory that *made takes, with a zero

@@ -51,24 +51,42 @@ WORDS = ("done", "no such file", "the file is held", "a writer has the file open
 ENDS = {1: Why.MOUNTS_SPENT, 2: Why.NO_ROOT, 3: Why.ENGINE_MEMORY, 4: Why.FAULT, 7: Why.DAMAGED}
 
 
+NUMBERS = (0, errno.ENOENT, errno.EBUSY, errno.EBUSY, errno.EEXIST, errno.EFBIG, errno.EOVERFLOW, errno.EOVERFLOW, errno.EBADF, errno.EBUSY, errno.EOVERFLOW,
+           errno.EINVAL, errno.EINVAL, errno.EMFILE, errno.ENOMEM, errno.ECHILD, errno.EINVAL, errno.EIO, errno.EIO, errno.ENOMEM, errno.EPIPE, errno.EPROTO)
+
+
 class Error(OSError):
-    """A call that did not do what it says. `why` is one of Why. At damage `item` is the path of the item in its container, and `place` is that of
-    the damage in it."""
+    """A call that did not do what it says. `why` is one of Why, and `errno` the number of the system that fits it. `filename` is the name of the
+    file, and `filename2` that which a rename would give. Where there is no such file it is a FileNotFoundError too, and where the name is taken a
+    FileExistsError. At damage `item` is the path of the item in its container, and `place` is that of the damage in it."""
 
-    def __init__(self, why, item=None, place=None):
+    def __new__(cls, why, item=None, place=None, name=None, to=None):
+        kind = {Why.NO_FILE: NoFile, Why.EXISTS: Exists}.get(why, Error)
         where = f": {item} at {place}" if item else ""
-        super().__init__(WORDS[why] + where)
+        self = super().__new__(kind, NUMBERS[why], WORDS[why] + where, name, None, to)
         self.why, self.item, self.place = why, item, place
+        return self
+
+    def __reduce__(self):
+        return Error, (self.why, self.item, self.place, self.filename, self.filename2)
 
 
-def _error_of(kind, status, value, payload):
+class NoFile(Error, FileNotFoundError):
+    """There is no such file."""
+
+
+class Exists(Error, FileExistsError):
+    """The name is taken."""
+
+
+def _error_of(kind, status, value, payload, names):
     if status == REFUSED and Why.NO_FILE <= value <= Why.MOUNTS_SPENT:
-        return Error(value)
+        return Error(value, None, None, *names)
     if status == NO_REQUEST and (kind in (OPEN, OPEN_READ) or kind >= STAT):
-        return Error(Why.BAD_NAME)
+        return Error(Why.BAD_NAME, None, None, *names)
     if status == DAMAGED:
-        return Error(Why.DAMAGED, bytes(payload).decode(errors="replace"), value)
-    return Error({NO_MEMORY: Why.ENGINE_MEMORY, FAULT: Why.FAULT}.get(status, Why.STRANGE))
+        return Error(Why.DAMAGED, bytes(payload).decode(errors="replace"), value, *names)
+    return Error({NO_MEMORY: Why.ENGINE_MEMORY, FAULT: Why.FAULT}.get(status, Why.STRANGE), None, None, *names)
 
 
 def _flat(data):
@@ -124,13 +142,16 @@ def _pair(folder):
 
 
 class Mount:
-    """A folder, or 1 to 8 of them with colons between, whose files are opened here. It is a context: its end unmounts."""
+    """A folder, or 1 to 8 of them with colons between, whose files are opened here. It is a context: its end unmounts. One that nothing names any
+    more is closed too."""
+
+    _to = None
 
     def __init__(self, root=None, host=0, engine=None, at=None):
         """Joins the engine that serves by the folder `at`, or else by that of $PLFS_AT, whatever `root` and `host` say. Without one it starts an
         engine, whose writers are of this host. What is typed to interrupt this program doesn't end it: it has a session of its own."""
         at = at or os.environ.get("PLFS_AT")
-        self._lock, self._number, self._gone = threading.Lock(), 0, None
+        self._lock, self._number, self._gone, self._process = threading.Lock(), 0, None, os.getpid()
         self._free, self.engine = list(range(HANDLES_AT if at else HANDLES, 0, -1)), None
         if at:
             self._join(os.fspath(at))
@@ -227,8 +248,9 @@ class Mount:
         self._take(view)
         return status, value, view
 
-    def ask(self, kind, actor, place=0, extent=0, payload=b"", into=None):
-        """Makes one request. Gives the answer's value, and its bytes, which are those of `into` where that is given."""
+    def ask(self, kind, actor, place=0, extent=0, payload=b"", into=None, names=()):
+        """Makes one request. Gives the answer's value, and its bytes, which are those of `into` where that is given. An error tells these names
+        of files."""
         payload, place, extent = _flat(payload), operator.index(place), operator.index(extent)
         if not (0 <= place < 1 << 64 and 0 <= extent < 1 << 64):
             raise Error(Why.BAD_NUMBER)
@@ -242,7 +264,7 @@ class Mount:
                 raise Error(self._gone) if isinstance(error, OSError) else error
             if status == MADE:
                 return value, view
-            error = _error_of(kind, status, value, view)
+            error = _error_of(kind, status, value, view, names)
             if error.why in (Why.ENGINE_MEMORY, Why.STRANGE):
                 self._gone = error.why
         raise error
@@ -258,7 +280,7 @@ class Mount:
             self._free.append(actor)
 
     def _by_name(self, kind, name, place=0):
-        return self.ask(kind, NAMES, place, 0, _named(name))[0]
+        return self.ask(kind, NAMES, place, 0, _named(name), names=(name,))[0]
 
     # ---- files
 
@@ -280,7 +302,7 @@ class Mount:
     def rename(self, name, to):
         """Gives the file a new name, which must be free."""
         first = _named(name)
-        self.ask(RENAME, NAMES, 0, len(first), first + _named(to))
+        self.ask(RENAME, NAMES, 0, len(first), first + _named(to), names=(name, to))
 
     def flatten(self, name):
         """Writes the index of all that has landed as one, from which later readers start."""
@@ -313,6 +335,16 @@ class Mount:
         if ended:
             raise Error(ENDS.get(ended, Why.GONE))
 
+    def __del__(self):
+        try:
+            if self._process == os.getpid():
+                self.close()
+            elif self._to is not None:  # a copy in a process that was forked: the mount is the other one's
+                os.close(self._to)
+                os.close(self._from)
+        except Exception:  # at the program's end what it calls may be gone
+            pass
+
     def __enter__(self):
         return self
 
@@ -331,10 +363,10 @@ class _File(io.RawIOBase):
 
     def __init__(self, fs, kind, name, place=0):
         super().__init__()
-        self.fs, self.name, self._owns, self._place = fs, name, False, 0
+        self.fs, self.name, self._owns, self._place, self._process = fs, name, False, 0, os.getpid()
         self._actor = fs._actor()
         try:
-            self._told = fs.ask(kind, self._actor, place, payload=_named(name))[0]
+            self._told = fs.ask(kind, self._actor, place, payload=_named(name), names=(name,))[0]
         except BaseException:
             fs._leave(self._actor)
             self._actor = None
@@ -344,7 +376,7 @@ class _File(io.RawIOBase):
     def _ask(self, kind, *numbers, **bytes_of):
         if self._actor is None:
             raise ValueError("I/O operation on closed file")
-        return self.fs.ask(kind, self._actor, *numbers, **bytes_of)
+        return self.fs.ask(kind, self._actor, *numbers, names=(self.name,), **bytes_of)
 
     def seekable(self):
         return True
@@ -369,8 +401,11 @@ class _File(io.RawIOBase):
         if self._actor is None:
             return None
         actor, self._actor = self._actor, None
+        if self._process != os.getpid():  # a copy in a process that was forked: the file is the other one's
+            super().close()
+            return None
         try:
-            told = self.fs.ask(kind, actor)[0]
+            told = self.fs.ask(kind, actor, names=(self.name,))[0]
             self.fs._leave(actor)
             return told
         finally:
@@ -421,7 +456,7 @@ class Reader(_File):
 
     def __init__(self, fs, name, workers=1):
         if not 1 <= workers <= 16:
-            raise Error(Why.BAD_NUMBER)
+            raise Error(Why.BAD_NUMBER, None, None, name)
         super().__init__(fs, OPEN_READ, name, workers)
         self.size = self._end = self._told
 

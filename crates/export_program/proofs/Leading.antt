@@ -140,6 +140,6 @@ all_lead old new status (passing.unnamed begins deeds untold is) = begins_lead n
 -- ---- the run
 
 pub exported_leaves : (deeds deeds_after : Option (List Deed)) (e : Ends) (status : ℕ) → FailingLeavesSound → ExportCourse deeds deeds_after e status → TellsSoundTree e.stored → LeavesSoundTree e.stored_after
-exported_leaves deeds deeds_after e status failing (unmounted why after is failed same said) (tree, told, sound) = (after, is, failing e.stored after why tree failed told sound)
+exported_leaves deeds deeds_after e status failing (unmounted why after is failed same undamaged said) (tree, told, sound) = (after, is, failing e.stored after why tree failed told sound)
 exported_leaves deeds deeds_after e status failing (exported after is i) told =
     (after, is, all_leave_sound HasOnlyLooked goes e.times e.stored after failing (ran (was_run HasOnlyLooked e.times e.stored after i.start i.end i.mounted (all_lead (at i.start deeds e.taking) (at i.end deeds_after e.taking_after) status i.writes) (sym i.left))) told)

@@ -27,6 +27,7 @@ use Rattle.lone_flow.specs.Driving.{Makes}
 use Rattle.script_lang.specs.declared.line.Line.{Line}
 use Rattle.run_core.proofs.Facts.{risen_before}
 use Rattle.program_ends.specs.Ends.{Ends}
+use Rattle.program_ends.specs.Mounting.{IsUnmounted}
 use Rattle.program_ends.specs.Outcomes.{has_line, is_damage, is_fault, is_refusal, status_of}
 use Rattle.program_ends.specs.Reported.{IsReported}
 use Rattle.program_ends.specs.SoundTrees.{TellsSoundTree}
@@ -83,6 +84,10 @@ unmounted_four : (why : MountTrouble) (taking taking_after : Taking) (status : �
 unmounted_four why taking taking_after status R (inl (lines, (outcome, told, only), inl (is, printed))) cause four = fault_line_alone why outcome lines R told only cause (four_is status (has_line is_damage lines) (has_line is_fault lines) (has_line is_refusal lines) is four)
 unmounted_four why taking taking_after status R (inl (lines, broke, inr (is, cut))) cause four = absurd (omega (arith, is, four))
 unmounted_four why taking taking_after status R (inr (is, same)) cause four = absurd (omega (arith, is, four))
+
+-- over a store that told a sound tree it says nothing of damage
+pub says_no_damage : (before after : Stored) (why : MountTrouble) → FailsToMount before why after → TellsSoundTree before → (lines : List Line) → IsUnmounted why lines → has_line is_damage lines ≡ false
+says_no_damage before after why failed told lines broke = unmounted_undamaged before after why lines failed broke told
 
 unmounted_seven : (before after : Stored) (why : MountTrouble) (taking taking_after : Taking) (status : ℕ) → FailsToMount before why after → IsUnmountedSaid why taking taking_after status → TellsSoundTree before → status ≢ 7
 unmounted_seven before after why taking taking_after status failed (inl (lines, broke, inl (is, printed))) told seven =
@@ -194,7 +199,7 @@ all_seven old new status sound (passing.unnamed begins deeds untold is) seven = 
 -- ---- the run
 
 pub export_caused : (deeds deeds_after : Option (List Deed)) (e : Ends) (status : ℕ) → ExportCourse deeds deeds_after e status → status ≡ 4 → (after : Stored) × (e.stored_after ≡ Some after) × HasRisen e.stored.faults after.faults
-export_caused deeds deeds_after e status (unmounted why after is failed same said) four = (after, is, unmounted_four why e.taking e.taking_after status (HasRisen e.stored.faults after.faults) said (fault_has_cause e.stored after why failed) four)
+export_caused deeds deeds_after e status (unmounted why after is failed same sound said) four = (after, is, unmounted_four why e.taking e.taking_after status (HasRisen e.stored.faults after.faults) said (fault_has_cause e.stored after why failed) four)
 export_caused deeds deeds_after e status (exported after is x) four = (
   after,
   is,
@@ -203,6 +208,6 @@ export_caused deeds deeds_after e status (exported after is x) four = (
 )
 
 pub export_undamaged : (deeds deeds_after : Option (List Deed)) (e : Ends) (status : ℕ) → ExportCourse deeds deeds_after e status → TellsSoundTree e.stored → status ≢ 7
-export_undamaged deeds deeds_after e status (unmounted why after is failed same said) told = unmounted_seven e.stored after why e.taking e.taking_after status failed said told
+export_undamaged deeds deeds_after e status (unmounted why after is failed same sound said) told = unmounted_seven e.stored after why e.taking e.taking_after status failed said told
 export_undamaged deeds deeds_after e status (exported after is x) told =
     all_seven (at x.start deeds e.taking) (at x.end deeds_after e.taking_after) status (subst (λ (s : Stored). TellsSoundTree s) (sym x.mounted.opened_is) told) x.writes

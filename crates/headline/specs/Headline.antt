@@ -46,7 +46,7 @@ pub record IsOrderly (run : Run) : Type 0 where
   pub ended : (t : Told) → IsLine run t → WasStopped run t → t.outcome ≡ line.Gone
   pub fault : (t : Told) → Says run t line.Fault → HasRisen run.faults run.faults_after
 
--- What all lines say, and the tree after. `mount_model` says in which order containers got their names, and of which container each line speaks.
+-- What all lines say, and the tree after. The story says in which order containers got their names, and of which container each line speaks.
 pub record Headline (run : Run) (story : Story) : Type 0 where
   pub orderly : IsOrderly run
   -- containers are numbered as in the tree; they get names by `open` and `rename`, in an order that fits the lines and leads to the names after

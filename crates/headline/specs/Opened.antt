@@ -8,7 +8,7 @@ use Rattle.headline.specs.Trees.{Has}
 use Rattle.headline.specs.Writers.{host_of}
 use Rattle.headline.specs.Names.{Story}
 
--- `open ID`: the container that the line speaks of has the index and the log of this writer, under its actor's host. `mount_model` says which container it is.
+-- `open ID`: the container that the line speaks of has the index and the log of this writer, under its actor's host. The story says which container it is.
 -- No writer of the tree before has its number, and no other line told of it.
 pub record HasOpened (run : Run) (story : Story) : Type 0 where
   pub index : (t : Told) (id : ℕ) → Says run t (Opened id) → Has run.after (story.of t) (Index (host_of (slice_get run.script.actors t.actor)) id)

@@ -17,7 +17,7 @@ use Rattle.headline.specs.Views.{IdsRise, item_of}
 use Rattle.headline.specs.Files.{reader_at}
 use Rattle.headline.specs.Changes.{writer_at}
 
--- The line of a reader, `reader SIZE cut .. trunc ..`, of the container that `mount_model` says.
+-- The line of a reader, `reader SIZE cut .. trunc ..`, of the container that the story says.
 pub record SeesWhatWasTold (run : Run) (story : Story) (t : Told) (cut : List WriterCount) (truncs : List Trunc) : Type 0 where
   -- of a writer that a line opened there it sees all writes that a sync or a close told before
   pub synced : (s o : Told) (n id : ℕ) → Says run s (line.Synced n) ⊎ Says run s (line.Closed n) → writer_at run s ≡ Some id → surely_before run s t ≡ true → Says run o (line.Opened id) → story.of o ≡ story.of t → 1 ≤ n

@@ -19,7 +19,7 @@ UsesReader Refresh = ⊤
 UsesReader Rclose = ⊤
 UsesReader other = ⊥
 
--- A statement that uses a reader is refused only as `not-open`, and its actor has none. `ropen` is refused only where there is no file, or its actor has a reader.
+-- A statement that uses a reader is refused only as `not-open`, and its actor has none. `ropen` is refused only as `no-file`, or as `already-open` where its actor has a reader.
 -- Only `open` and `ropen` are refused as `already-open`, and their actor has what they open; of a writer, it may be closed.
 pub record HasRefusals (run : Run) : Type 0 where
   pub uses : (t : Told) (why : Why) → Says run t (Refused why) → UsesReader t.statement → (why ≡ NotOpen) × (reader_at run t ≡ None)

@@ -13,7 +13,7 @@ use Rattle.headline.specs.Trees.{Has}
 use Rattle.headline.specs.Names.{Story}
 use Rattle.headline.specs.Views.{IdsRise, IsCut, Seen, changes_of, item_of, shared, stamp_of, writes_of}
 
--- The line `stat SIZE BYTES by .. trunc ..`, of the container that `mount_model` says, tells of one plain file, which a reader might have opened.
+-- The line `stat SIZE BYTES by .. trunc ..`, of the container that the story says, tells of one plain file, which a reader might have opened.
 pub record ShowsStat (run : Run) (story : Story) (t : Told) (size stored : ℕ) (shares : List ShareBytes) (truncs : List Trunc) : Type 0 where
   -- it is of the first writes of each writer: no fewer than surely had landed before the line, and no more than may have by its end
   pub seen : List Seen

@@ -6,6 +6,7 @@ mod Makers
 mod OrderlyLines
 pub mod Plays
 mod Reasons
+mod Stamps
 mod Statements
 mod Story
 mod Trees

@@ -9,7 +9,9 @@ pub mod Lacking
 pub mod Looks
 pub mod Missing
 pub mod Opening
+pub mod OpenWriters
 pub mod Recovering
 pub mod Statements
 pub mod Told
+pub mod Unready
 pub mod Writers

@@ -1,5 +1,6 @@
 -- What each statement does, and what its actor keeps.
 pub mod Again
+pub mod Capacity
 pub mod Chains
 pub mod Did
 pub mod DidByName
@@ -11,3 +12,5 @@ pub mod Known
 pub mod Living
 pub mod LivingLines
 pub mod Refreshed
+pub mod StillOpen
+pub mod SureLines

@@ -16,5 +16,6 @@ pub mod Reading
 pub mod Recovered
 pub mod Sights
 pub mod Still
+pub mod TakenHost
 pub mod Truncated
 pub mod WriterStands

@@ -1,7 +1,11 @@
 -- What a line shows of a container that its statement held and changed.
-use Rattle.std.specs.Prelude.{◌≡◌, ◌<◌, ℕ, List, ◌∷◌, ◌++◌, Some}
+use Rattle.std.specs.Prelude.{◌≡◌, ◌⊎◌, ◌<◌, ℕ, List, ◌∷◌, ◌++◌, Option, Some}
 use Rattle.std.specs.List.{All}
+use Rattle.plfs_types.specs.Stamps.{next_stamp}
+use Rattle.plfs_types.specs.declared.limits.TheConstants.{MAX_STAMP}
 use Rattle.plfs_types.specs.declared.names.Path.{Path}
+use Rattle.container_layout.specs.declared.items.Item.TheVariants.{Meta, Trunc}
+use Rattle.edge_io.specs.Clock.{Ticks}
 use Rattle.store_api.specs.declared.tree.Room.{Room}
 use Rattle.store_api.specs.declared.tree.Tree.{Tree}
 use Rattle.store_laws.specs.There.{IsFree}
@@ -16,7 +20,7 @@ use Rattle.mount_model.specs.Table.{holder_of}
 use Rattle.mount_sound.specs.Excluding.{IsAboveAll}
 use Rattle.mount_sound.specs.Ledger.{Written}
 use Rattle.mount_sound.specs.Owed.{InRoom, IsLawful}
-use Rattle.reader_laws.specs.Moments.{HadTrunc, Moment, file_then, moment_after, next_moment}
+use Rattle.reader_laws.specs.Moments.{HadItem, HadTrunc, Moment, file_then, moment_after, next_moment}
 use Rattle.reader_laws.specs.Naming.{IsRoomNamed}
 use Rattle.headline_laws.specs.Opening.{Stretch}
 
@@ -68,12 +72,27 @@ abbrev pub IssuesAbove : Moment → ℕ → ℕ → Type 0
 IssuesAbove moment room stamp = (events : List Event) (writer : ℕ) → IsLawful moment.state events
     → (more : List Written) × ((moment_after moment events).issued room writer ≡ moment.issued room writer ++ more) × All (λ (w : Written). stamp < w.entry.stamp) more
 
+-- the stamp of a truncate that stands in the room, or of a writer's metadata, or 0
+abbrev pub IsTopIn : Moment → ℕ → ℕ → Type 0
+IsTopIn moment room top = (top ≡ 0) ⊎ ((size : ℕ) × HadItem moment room (Trunc top size)) ⊎ ((last bytes host writer : ℕ) × HadItem moment room (Meta last bytes top host writer))
+
+-- the clock was asked at this moment, and the stamp is the next one above such a stamp
+pub record IsTimed (moment : Moment) (room stamp : ℕ) : Type 0 where
+  pub time : ℕ
+  pub times : Option (List ℕ)
+  pub ticks : Ticks moment.state.times times time
+  pub top : ℕ
+  pub stood : IsTopIn moment room top
+  pub is : stamp ≡ next_stamp time top top
+  pub left : top < MAX_STAMP
+
 -- From the later moment on the truncate of this stamp and size stands in the room. Its stamp is above that of each truncate that stood there, and of each
 -- entry that had landed there, so that it hides every byte that was there from its size on; and it hides nothing that is written later.
 pub record IsTruncated (before after : Moment) (room size stamp : ℕ) : Type 0 where
   pub above : InRoom before.state room (λ (r : Room). IsAboveAll r stamp)
   pub stands : HadTrunc after room stamp size
   pub below : IssuesAbove after room stamp
+  pub timed : IsTimed before room stamp
 
 -- In this stretch the caller truncated the file of this name to this size, with this stamp.
 pub record TruncatesFile (start : Moment) (caller : ℕ) (stretch : Stretch) (name : Name) (size stamp : ℕ) : Type 0 where

@@ -34,12 +34,12 @@ pub fn what_stood_stands()
 /// under the host of the line's actor. A reader's line counts of each writer of its container all writes that a sync or a close told before, and has all
 /// truncates that were told before. It shows one plain file: of the first writes of each writer, as the lines tell them, and of its truncates. The tree after
 /// has the first writes of each writer, as many as the lines allow, and of one that was closed metadata of all of them. Each truncate and each index that it
-/// has is of the tree before or of a line. What is told of a file is that of one such plain file. Where no statement renames, all names are listed. What is
-/// refused as `already-open` opens what its actor has. A writer that a recovery took out is open no more, and is none that its actor has at the end. No loss of
+/// has is of the tree before or of a line. Each stamp is one of the clock's times, or the next above what came before. What is told of a file is that of one such plain file. Where no statement renames, all names are listed. What is
+/// refused as `already-open` opens what its actor has, and as `not-open` it uses what its actor hasn't. A writer that a recovery took out is open no more, and is none that its actor has at the end. No loss of
 /// power after the run takes a write that a sync or a close told. So it is where the lines are right, from a mount over a sound tree on, and so it is of a play.
 pub fn lines_have_a_story()
-    ensures right { (run : Run) (times : Option (List ℕ)) (opened : Stored) (start end : State) → FitsScript run.script → IsMounted 0 times opened start → opened.tree ≡ Some run.before → IsSoundTree run.before → IsRight run.script start run.lines end
+    ensures right { (run : Run) (opened : Stored) (start end : State) → FitsScript run.script → IsMounted 0 run.times opened start → opened.tree ≡ Some run.before → IsSoundTree run.before → IsRight run.script start run.lines end
         → end.store.tree ≡ Some run.after → run.in_order ≡ false → (story : Story) × Fits run story }
-    ensures played { (run : Run) (times : Option (List ℕ)) (opened : Stored) (start end : State) → FitsScript run.script → IsMounted 0 times opened start → opened.tree ≡ Some run.before → IsSoundTree run.before → IsPlay run.script start run.lines end
+    ensures played { (run : Run) (opened : Stored) (start end : State) → FitsScript run.script → IsMounted 0 run.times opened start → opened.tree ≡ Some run.before → IsSoundTree run.before → IsPlay run.script start run.lines end
         → end.store.tree ≡ Some run.after → run.in_order ≡ false → (story : Story) × Fits run story }
 {}

@@ -31,17 +31,17 @@ opened w = w.is_open
 true_not : (b : Bool) → b ≡ false → b ≡ true → ⊥
 true_not b f t = let e : true ≡ false = sym t ∙ f in cc
 
-some_is : {X : Type 0} (a b : X) → Some a ≡ Some b → a ≡ b
+pub some_is : {X : Type 0} (a b : X) → Some a ≡ Some b → a ≡ b
 some_is a b e = cc
 
-none_there : {X : Type 0} (n : ℕ) (x : X) → slice_get [] n ≡ Some x → ⊥
+pub none_there : {X : Type 0} (n : ℕ) (x : X) → slice_get [] n ≡ Some x → ⊥
 none_there n x e = cc
 
-either_so : {C : Type 0} (b : Bool) (X Y : Type 0) → (X → C) → (Y → C) → When b X Y → C
+pub either_so : {C : Type 0} (b : Bool) (X Y : Type 0) → (X → C) → (Y → C) → When b X Y → C
 either_so true X Y yes_so no_so x = yes_so x
 either_so false X Y yes_so no_so y = no_so y
 
-maybe_so : {A C : Type 0} (o : Option A) (X : Type 0) (Y : A → Type 0) → (X → C) → ((a : A) → Y a → C) → MatchOption o X Y → C
+pub maybe_so : {A C : Type 0} (o : Option A) (X : Type 0) (Y : A → Type 0) → (X → C) → ((a : A) → Y a → C) → MatchOption o X Y → C
 maybe_so None X Y none_so some_so x = none_so x
 maybe_so (Some a) X Y none_so some_so y = some_so a y
 

@@ -1,5 +1,8 @@
+mod Apart
 mod Dead
+mod Droppings
 pub mod Facts
+mod Foreign
 mod NotAlive
 mod OverStores
 mod Phases
@@ -9,5 +12,6 @@ mod Programs
 mod Readers
 mod Standing
 mod Statements
+mod Stops
 mod Writers
 mod Written

@@ -26,6 +26,7 @@ use Rattle.plain_machine.specs.Running.{nobody}
 use Rattle.plain_plays.specs.Beginning.{bare_tree, first_machine}
 use Rattle.plain_plays.specs.Saying.{MetNoFault, SaysPlainly}
 use Rattle.plain_plays.specs.OverStores.{BeginsOver, TellsPlainly, as_mounted, bare}
+use Rattle.plain_plays.proofs.Droppings.{droppings_so}
 use Rattle.plain_plays.proofs.Plays.{begun_so, faults_rise, plays_so}
 
 -- ---- the first mark
@@ -105,7 +106,9 @@ no_fault script opened start end lines keeps play none =
 
 -- the lines of a play are what each machine says that begins over the store
 pub plays_over : (script : Script) (times : Option (List ℕ)) (opened : Stored) (start end : State) (lines : List Line) → FitsScript script → IsMounted 0 times opened start → IsPlay script start lines end → MetNoFault start end → TellsPlainly script times opened lines end.store
-plays_over script times opened start end lines fits mounted play well plain p begins = record { end = end; left = refl; says = said begins }
+plays_over script times opened start end lines fits mounted play well plain p begins =
+    let says = said begins in
+    record { end = end; left = refl; says = says; droppings = λ tree told. droppings_so (record { state = end; issued = says.mirrored.issued }) says.last says.mirrored.mirrors tree told }
   where
     said : BeginsOver script times opened p → SaysPlainly script p lines end
     said (bare is first) =

@@ -25,7 +25,7 @@ use Rattle.script_lang.specs.declared.script.Script.{Script}
 use Rattle.script_lang.specs.Ranges.{FitsNumbered, FitsPhase, FitsScript}
 use Rattle.reader_laws.specs.Moments.{Moment, moment_after, next_moment}
 use Rattle.actor_core.specs.Progress.{fresh}
-use Rattle.run_core.specs.Cast.{cast, cast_from}
+use Rattle.run_core.specs.Cast.{cast, cast_from, statements_in}
 use Rattle.run_core.specs.Course.{course_of}
 use Rattle.run_core.specs.Play.{IsPlay}
 use Rattle.plain_machine.specs.Machine.{Plain, PlainActor, PlainWriter}
@@ -35,6 +35,7 @@ use Rattle.plain_plays.specs.Beginning.{bare_tree, first_machine}
 use Rattle.plain_plays.specs.Mirrors.{Mirrors}
 use Rattle.plain_plays.proofs.PlainSteps.Facts.{begins_so, machine_so}
 use Rattle.plain_plays.specs.Saying.{BeginsPlainly, IsMirrored, MetNoFault, SaysOfSome, SaysPlainly}
+use Rattle.plain_plays.proofs.Apart.{all_apart, drawn_first}
 use Rattle.plain_plays.proofs.NotAlive.{DeadStayOut, dead_are_out, dead_first}
 use Rattle.plain_plays.proofs.Phases.{AreResting, IsMeantPhase, phases_taken}
 use Rattle.plain_plays.proofs.Written.{AllWell, IsMeant}
@@ -141,6 +142,7 @@ plays_so script start end lines p fits plain begins play well =
       takes = t.takes;
       mirrored = record { issued = (moment_after m play.history).issued; mirrors = subst (λ (s : State). Mirrors (record { state = s; issued = (moment_after m play.history).issued }) t.last) last t.mirrors };
       dead_out = dead_are_out end t.last (subst (λ (s : State). DeadStayOut s t.last) last t.out);
+      apart = λ before. all_apart script.actors p (statements_in script.phases) lines t.last (drawn_first m p begins.mirrored.mirrors) before t.takes;
     }
 
 -- ---- a mount as it begins
@@ -180,10 +182,19 @@ begun_so script times opened start end lines fits plain bare mounted play well =
 
 -- ---- a mount over a sound tree
 
+-- a machine that begins with it
+pub record MachineBegins (script : Script) (start : State) : Type 0 where
+  pub machine : Plain
+  pub begins : BeginsPlainly script start machine
+
+pub machine_begins : (script : Script) (serial : ℕ) (times : Option (List ℕ)) (opened : Stored) (tree : Tree) (start : State) → opened.tree ≡ Some tree → IsSoundTree tree → IsMounted serial times opened start → MachineBegins script start
+machine_begins script serial times opened tree start told sound mounted =
+    let m : Moment = record { state = start; issued = sound.issued } in
+    let found = machine_so m (map nobody script.actors) (mounted_sound serial times opened start tree mounted told sound) mounted.no_holders in
+    record { machine = found.machine; begins = begins_on script serial times opened start found.machine mounted (record { issued = sound.issued; mirrors = found.mirrors }) found.has_actors }
+
 pub sound_so : (script : Script) (serial : ℕ) (times : Option (List ℕ)) (opened : Stored) (tree : Tree) (start end : State) (lines : List Line) → FitsScript script → IsPlainScript script → opened.tree ≡ Some tree → IsSoundTree tree → IsMounted serial times opened start → IsPlay script start lines end → MetNoFault start end
     → SaysOfSome script start lines end
 sound_so script serial times opened tree start end lines fits plain told sound mounted play well =
-    let m : Moment = record { state = start; issued = sound.issued } in
-    let found = machine_so m (map nobody script.actors) (mounted_sound serial times opened start tree mounted told sound) mounted.no_holders in
-    let begins = begins_on script serial times opened start found.machine mounted (record { issued = sound.issued; mirrors = found.mirrors }) found.has_actors in
-    record { machine = found.machine; begins = begins; says = plays_so script start end lines found.machine fits plain begins play well }
+    let found = machine_begins script serial times opened tree start told sound mounted in
+    record { machine = found.machine; begins = found.begins; says = plays_so script start end lines found.machine fits plain found.begins play well }

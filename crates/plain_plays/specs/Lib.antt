@@ -1,6 +1,9 @@
+pub mod Apart
 pub mod Asking
 pub mod Beginning
 pub mod Calls
+pub mod Droppings
+pub mod Foreign
 pub mod Mirrors
 pub mod Opens
 pub mod OverStores
@@ -9,4 +12,5 @@ pub mod Readers
 pub mod Saying
 pub mod Served
 pub mod Stepping
+pub mod Stops
 pub mod Tops

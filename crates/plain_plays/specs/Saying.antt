@@ -10,6 +10,7 @@ use Rattle.run_core.specs.Cast.{statements_in}
 use Rattle.plain_machine.specs.Machine.{Plain, PlainRoom, PlainWriter}
 use Rattle.plain_machine.specs.ByName.{dead}
 use Rattle.plain_machine.specs.Running.{TakesAll, nobody}
+use Rattle.plain_plays.specs.Apart.{AreApart}
 use Rattle.plain_plays.specs.Mirrors.{Mirrors}
 
 -- the machine has what a mount in this state has, where these writes were issued
@@ -32,12 +33,14 @@ pub record MetNoFault (start end : State) : Type 0 where
   pub none : end.store.faults ≡ start.store.faults
   pub counted : start.store.faults < 2 ^ 64 - 1
 
--- The lines are what the machine says of the statements as they are written. It has at the end what the mount has.
+-- The lines are what the machine says of the statements as they are written. It has at the end what the mount has. Where its writers stood in one room each, they do
+-- so at the end.
 pub record SaysPlainly (script : Script) (p : Plain) (lines : List Line) (end : State) : Type 0 where
   pub last : Plain
   pub takes : TakesAll script.actors p (statements_in script.phases) lines last
   pub mirrored : IsMirrored end last
   pub dead_out : DeadAreOut end last
+  pub apart : AreApart p → AreApart last
 
 -- A machine has what the mount has as the play begins, and the lines are what it says.
 pub record SaysOfSome (script : Script) (start : State) (lines : List Line) (end : State) : Type 0 where

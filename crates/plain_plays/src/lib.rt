@@ -7,7 +7,7 @@
 mod laws;
 mod plain_laws;
 
-pub use laws::plays_are_plain;
+pub use laws::{foreign_names_are_told_first, plays_are_plain, stops_come_in_their_call};
 pub use plain_laws::{
     flattenings_are_steps, listings_are_steps, machines_begin_with_mounts, open_writers_are_served,
     openings_are_served, reader_statements_are_steps, recoveries_are_steps, tellings_are_steps,

@@ -1,4 +1,5 @@
 //! The files of a folder whose bytes are put: which they are, and how they are read.
+ghost use Rattle.std.specs.Prelude.{◌≡◌};
 ghost use Rattle.std.specs.Io.{ReadsAtMost};
 
 use copy_program::Named;
@@ -19,6 +20,21 @@ pub struct Entries {
     pub has_closed: bool,
     /// Whether something else is in the folder, and was left out.
     pub has_others: bool,
+}
+
+/// Why the files of a folder can't be told: this entry, or the folder where there is none, can't be looked at.
+#[derive(Clone, Copy)]
+pub struct Unlisted {
+    pub entry: Option<Name>,
+    pub error: io::Error,
+}
+
+impl From<io::Error> for Unlisted {
+    fn from(error: io::Error) -> Unlisted
+        ensures { result.error ≡ error }
+    {
+        Unlisted { entry: None, error }
+    }
 }
 
 /// A file of a folder that is put.
@@ -68,24 +84,26 @@ impl Entries {
         rt: &HostRuntime,
         folder: &Word,
         entry: &DirEntry<HostRuntime, Global>,
-    ) -> io::Result<()> {
+    ) -> Result<(), Unlisted> {
         let text = entry.file_name();
         let Some(name) = LogicalName::read(text.as_bytes()) else {
             self.leave(rt, folder, text, "its name is none of a file");
             return Ok(());
         };
         match fs::metadata(rt, entry.path()) {
-            Ok(found) if found.is_file() => self.keep(rt, entry, name),
-            Ok(_) => {
-                self.leave(rt, folder, text, "it is no plain file");
-                Ok(())
-            }
-            Err(error) if error.kind() == ErrorKind::NotFound => {
+            Ok(found) if found.is_file() => self.keep(rt, entry, name)?,
+            Ok(_) => self.leave(rt, folder, text, "it is no plain file"),
+            Err(error)
+                if error.kind() == ErrorKind::NotFound
+                    || leads_nowhere(error.kind()) && is_link(entry) => {
                 self.leave(rt, folder, text, "it leads nowhere");
-                Ok(())
             }
-            Err(error) => Err(error),
+            Err(error) => {
+                let entry = Some(name.name());
+                return Err(Unlisted { entry, error });
+            }
         }
+        Ok(())
     }
 
     // All that stands in the folder.
@@ -94,14 +112,14 @@ impl Entries {
         rt: &HostRuntime,
         folder: &Word,
         listing: ReadDir<HostRuntime, Global>,
-    ) -> io::Result<()> {
+    ) -> Result<(), Unlisted> {
         for entry in listing {
             match entry {
                 Ok(entry) => self.meet(rt, folder, &entry)?,
                 Err(error) if error.kind() == ErrorKind::InvalidFilename => {
                     self.leave(rt, folder, "?", "its name is no text");
                 }
-                Err(error) => return Err(error),
+                Err(error) => return Err(Unlisted::from(error)),
             }
         }
         self.names.sort_unstable();
@@ -125,11 +143,11 @@ impl Entries {
 
 /// The files of this folder that can be put. What else is there is said on standard error.
 #[inline(never)]
-pub fn list_files(rt: &HostRuntime, folder: &Word) -> io::Result<Entries> {
+pub fn list_files(rt: &HostRuntime, folder: &Word) -> Result<Entries, Unlisted> {
     let mut entries = Entries::new(rt.alloc());
     match fs::read_dir(rt, folder.as_str()) {
         Ok(listing) => entries.meet_all(rt, folder, listing)?,
-        Err(error) => return Err(error),
+        Err(error) => return Err(Unlisted::from(error)),
     }
     Ok(entries)
 }
@@ -142,6 +160,26 @@ pub struct Entry {
     path: String,
     file: Option<File>,
     amount: Amount,
+}
+
+// Whether a link at which the system ends so leads to nothing.
+fn leads_nowhere(kind: ErrorKind) -> bool {
+    matches!(
+        kind,
+        ErrorKind::NotFound
+            | ErrorKind::NotADirectory
+            | ErrorKind::FilesystemLoop
+            | ErrorKind::InvalidFilename
+            | ErrorKind::PermissionDenied
+    )
+}
+
+// Whether the system says that it is a link.
+fn is_link(entry: &DirEntry<HostRuntime, Global>) -> bool {
+    match entry.file_type() {
+        Ok(found) => found.is_symlink(),
+        Err(_) => false,
+    }
 }
 
 // The path of the file of this name.

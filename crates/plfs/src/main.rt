@@ -37,8 +37,8 @@ use std::sync::Wait;
 use std::thread::Threads;
 use store_folder::FolderStore;
 use system_edge::{
-    Called, INPUT, MOST_FOLDERS, Program, Standard, are_named, folders_of, lock_folders,
-    open_files, read_called, split_from, stores_of,
+    Called, INPUT, MOST_FOLDERS, Program, Standard, are_named, folders_of, lock_folders, look_at,
+    open_files, program_called, read_called, split_from, stores_of,
 };
 
 /// Reads the words, the first of which is the folder, and ends with the status of their command. A standard stream
@@ -59,7 +59,7 @@ fn main(rt: HostRuntime) -> ExitCode {
         return starved(&rt);
     };
     let Some(Called { program, words }) = called else {
-        return usage(&rt, Program::Plfs);
+        return usage(&rt, program_called(&rt));
     };
     let Some((root, words)) = words.split_first() else {
         return usage(&rt, program);
@@ -150,7 +150,7 @@ fn obey_drain<H: Threads + Wait + Sync>(
 }
 
 // Does what the words of `plfs_copy` ask for. Without standard input nothing is put, and neither where one of the files in its place
-// can't be opened.
+// can't be opened or read.
 #[inline(never)]
 fn obey_copy<H: Threads + Wait + Sync>(
     handle: &H,
@@ -170,6 +170,11 @@ fn obey_copy<H: Threads + Wait + Sync>(
         [] => {
             if copies_the_input(&command) && standard.has(INPUT) {
                 return unread(&rt, io::Error::other("it is closed"), standard);
+            }
+            if copies_the_input(&command) {
+                if let Err(error) = look_at(&mut rt.stdin()) {
+                    return unread(&rt, error, standard);
+                }
             }
             let opened = RefCell::new(Vec::new(rt.alloc()));
             let task = Task::Copy {
@@ -224,7 +229,7 @@ fn obey_import<H: Threads + Wait + Sync>(
     };
     let entries = match list_files(&rt, folder) {
         Ok(entries) => entries,
-        Err(error) => return tell_unlisted(&rt, folder, error),
+        Err(unlisted) => return tell_unlisted(&rt, folder, unlisted),
     };
     let task = Task::Import {
         command,

@@ -25,6 +25,8 @@ struct Hearing<'a, R> {
 }
 
 impl<'a, R: Read> Read for Hearing<'a, R> {
+    ghost remaining = { λ hearing. R.remaining hearing.reader };
+
     fn read(&mut self, buf: &mut [u8]) -> io::Result<usize> {
         let end = self.reader.read(buf);
         if let Err(error) = &end {

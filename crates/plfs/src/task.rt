@@ -92,6 +92,8 @@ struct Hearing<'a, 'b, R> {
 }
 
 impl<'a, 'b, R: Read> Read for Hearing<'a, 'b, R> {
+    ghost remaining = { λ hearing. R.remaining hearing.reader };
+
     fn read(&mut self, buf: &mut [u8]) -> io::Result<usize> {
         let end = self.reader.read(buf);
         match &end {

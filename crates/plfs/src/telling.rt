@@ -4,6 +4,7 @@ ghost use Rattle.std.specs.IoError.{error_kind};
 ghost use Rattle.std.specs.Process.{exit_status};
 ghost use Rattle.plfs.specs.Telling.{unopened_status};
 
+use crate::entries::Unlisted;
 use crate::exporting::tells_each;
 use crate::serving::tells_requests;
 use crate::task::{Ran, Task};
@@ -194,17 +195,24 @@ pub fn tell_unread(rt: &HostRuntime, unopened: Unopened<'_>) -> ExitCode
     ExitCode::from(5)
 }
 
-/// Says why a folder whose files are to be put can't be listed. Nothing was done.
+/// Says why a folder whose files are to be put can't be listed, or which of its entries can't be looked at. Nothing was done.
 #[inline(never)]
-pub fn tell_unlisted(rt: &HostRuntime, folder: &Word, error: io::Error) -> ExitCode
-    ensures starved { error_kind error ≡ ErrorKind.OutOfMemory → exit_status result ≡ 3 }
-    ensures failed { error_kind error ≢ ErrorKind.OutOfMemory → exit_status result ≡ 5 }
+pub fn tell_unlisted(rt: &HostRuntime, folder: &Word, unlisted: Unlisted) -> ExitCode
+    ensures starved { error_kind unlisted.error ≡ ErrorKind.OutOfMemory → exit_status result ≡ 3 }
+    ensures failed { error_kind unlisted.error ≢ ErrorKind.OutOfMemory → exit_status result ≡ 5 }
 {
+    let Unlisted { entry, error } = unlisted;
     if error.kind() == ErrorKind::OutOfMemory {
         return starved(rt);
     }
     let folder = Spelled(folder.as_str());
-    let _ = eprintln!(rt; "plfs: {folder}: list: {error}");
+    let _ = match entry {
+        Some(entry) => {
+            let entry = Spelled(str::from_utf8(entry.bytes()).unwrap_or(""));
+            eprintln!(rt; "plfs: {folder}/{entry}: look: {error}")
+        }
+        None => eprintln!(rt; "plfs: {folder}: list: {error}"),
+    };
     ExitCode::from(5)
 }
 

@@ -34,7 +34,7 @@ abbrev pub IsInput : List ℕ → Given → Given → Type 0
 IsInput bytes given after = IsWholeInput (2 ^ 20 + 1) bytes given after
 
 -- What becomes of a run, where these commands are served: one case for each kind of end, with its status. Only `play`, `run` and `pack`
--- read the input.
+-- read the input. Where memory was refused before the mounting, no read of it had failed.
 pub data Course (Serves : Command → Type 0) (words : List (List ℕ)) (given after : Given) (e : Ends) (status : ℕ) : Type 0 where
   usage : ((command : Command) → Serves command → IsCommand words command → ⊥) → after ≡ given → IsUntouched e → IsSaid usage_line e → status ≡ 2
       → Course Serves words given after e status
@@ -47,4 +47,4 @@ pub data Course (Serves : Command → Type 0) (words : List (List ℕ)) (given a
   packs : (name : List ℕ) (region : ℕ) (bytes : List ℕ) → IsCommand words (Pack name region) → IsInput bytes given after → PackInputCourse name region bytes e status → Course Serves words given after e status
   unpacks : (name file : List ℕ) → IsCommand words (Unpack name file) → after ≡ given → UnpackCourse name file e status → Course Serves words given after e status
   names_all : (name : List ℕ) → IsCommand words (Names name) → after ≡ given → NamesCourse name e status → Course Serves words given after e status
-  hungry : IsUntouched e → e.taking_after ≡ e.taking → status ≡ 3 → Course Serves words given after e status
+  hungry : after.faults ≡ given.faults → IsUntouched e → e.taking_after ≡ e.taking → status ≡ 3 → Course Serves words given after e status

@@ -49,10 +49,11 @@ pub trait Input {
 
     /// Hands over the bytes left, up to one more than a script can have.
     ///
-    /// `Failed` comes only where the count of faults rose.
+    /// `Failed` comes only where the count of faults rose, and `NoMemory` only where it did not.
     fn rest(&mut self, alloc: Global) -> Result<Vec<u8>, NoInput>
         ensures whole { IfOk result (λ bytes. IsWholeInput (2 ^ 20 + 1) bytes.items (given self.old) (given self.new)) }
-        ensures cause { IsErrOf result NoInput.Failed → HasRisen (given self.old).faults (given self.new).faults };
+        ensures cause { IsErrOf result NoInput.Failed → HasRisen (given self.old).faults (given self.new).faults }
+        ensures hungry { IsErrOf result NoInput.NoMemory → (given self.new).faults ≡ (given self.old).faults };
 }
 
 /// Each source is an input, whose bytes are copied.
@@ -68,6 +69,7 @@ impl<I: Source> Input for I {
 fn read_source<I: Source>(alloc: Global, input: &mut I) -> Result<Vec<u8>, NoInput>
     ensures whole { IfOk result (λ bytes. IsWholeInput (2 ^ 20 + 1) bytes.items (I.given input.old) (I.given input.new)) }
     ensures cause { IsErrOf result NoInput.Failed → HasRisen (I.given input.old).faults (I.given input.new).faults }
+    ensures hungry { IsErrOf result NoInput.NoMemory → (I.given input.new).faults ≡ (I.given input.old).faults }
 {
     let mut bytes = Vec::new(alloc);
     let mut buffer = piece_buffer(alloc)?;
@@ -100,6 +102,7 @@ fn read_piece<I: Source>(
     ensures limit { OnOk result (vec_len bytes.new ≤ 2 ^ 20 + 1) }
     ensures faults { OnOk result ((I.given input.new).faults ≡ (I.given input.old).faults) }
     ensures cause { IsErrOf result NoInput.Failed → HasRisen (I.given input.old).faults (I.given input.new).faults }
+    ensures hungry { IsErrOf result NoInput.NoMemory → (I.given input.new).faults ≡ (I.given input.old).faults }
 {
     let room = PIECE.min(MAX_SCRIPT + 1 - bytes.len());
     let into = &mut buffer[..room];

@@ -349,7 +349,9 @@ fn follow<S: Store + Drop, C: Clock + Drop, I: Input, O: Sink>(
 /// store has risen and the sink took something of each piece, the status is 0, 1 or 3. A fault is told only where a count of the store has risen.
 ///
 /// Where no such count has risen and memory sufficed, what is shown of a script's lines is printed whole. If it has no `turn` and no `stop` lines, these
-/// are the lines that a plain machine says, which takes each statement in one step, as they are written. It begins with what the store has.
+/// are the lines that a plain machine says, which takes each statement in one step, as they are written. It begins with what the store has. Where the store
+/// told a sound tree there is such a machine, unless no mark is left, which line 0 says alone. In the tree that is left each writer that the machine has at the
+/// end has its droppings.
 pub fn single<S: Store + Drop, C: Clock + Drop, I: Input, O: Sink>(
     alloc: Global,
     words: &[Word],

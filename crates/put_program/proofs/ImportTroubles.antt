@@ -75,7 +75,7 @@ have_seven before host over start taking (s ∷ put) end taking_after last great
 -- ---- the run
 
 pub import_caused : (host : ℕ) (over : Bool) (sources : List Sourced) (e : Ends) (status : ℕ) → ImportCourse host over sources e status → status ≡ 4 → (after : Stored) × (e.stored_after ≡ Some after) × HasRisen e.stored.faults after.faults
-import_caused host over sources e status (unmounted why after is failed said) four = (after, is, unmounted_four why e.taking e.taking_after status (HasRisen e.stored.faults after.faults) said (fault_has_cause e.stored after why failed) four)
+import_caused host over sources e status (unmounted why after is failed undamaged said) four = (after, is, unmounted_four why e.taking e.taking_after status (HasRisen e.stored.faults after.faults) said (fault_has_cause e.stored after why failed) four)
 import_caused host over sources e status (imported after is i) four = (
   after,
   is,
@@ -84,5 +84,5 @@ import_caused host over sources e status (imported after is i) four = (
 )
 
 pub import_undamaged : (host : ℕ) (over : Bool) (sources : List Sourced) (e : Ends) (status : ℕ) → ImportCourse host over sources e status → TellsSoundTree e.stored → status ≢ 7
-import_undamaged host over sources e status (unmounted why after is failed said) told = unmounted_seven e.stored after why e.taking e.taking_after status failed said told
+import_undamaged host over sources e status (unmounted why after is failed undamaged said) told = unmounted_seven e.stored after why e.taking e.taking_after status failed said told
 import_undamaged host over sources e status (imported after is i) told = have_seven e.stored host over i.start e.taking i.puts.put i.end e.taking_after i.puts.last status told i.puts.have

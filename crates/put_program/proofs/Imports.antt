@@ -144,6 +144,6 @@ imported_so host over sources e status start end after is made puts left = impor
 })
 
 pub imported_leaves : (host : ℕ) (over : Bool) (sources : List Sourced) (e : Ends) (status : ℕ) → FailingLeavesSound → ImportCourse host over sources e status → TellsSoundTree e.stored → LeavesSoundTree e.stored_after
-imported_leaves host over sources e status failing (unmounted why after is failed said) (tree, told, sound) = (after, is, failing e.stored after why tree failed told sound)
+imported_leaves host over sources e status failing (unmounted why after is failed undamaged said) (tree, told, sound) = (after, is, failing e.stored after why tree failed told sound)
 imported_leaves host over sources e status failing (imported after is i) told =
     (after, is, all_leave_sound GoesOn (λ start end goes. goes) e.times e.stored after failing (ran (was_run GoesOn e.times e.stored after i.start i.end i.mounted (have_leads e.stored host over i.start e.taking i.puts.put i.end e.taking_after i.puts.last status i.puts.have) (sym i.left))) told)

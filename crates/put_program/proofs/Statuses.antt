@@ -118,6 +118,10 @@ unmounted_four why taking taking_after status R (inl (lines, (outcome, told, onl
 unmounted_four why taking taking_after status R (inl (lines, broke, inr (is, cut))) cause four = absurd (omega (arith, is, four))
 unmounted_four why taking taking_after status R (inr (is, same)) cause four = absurd (omega (arith, is, four))
 
+-- over a store that told a sound tree it says nothing of damage
+pub says_no_damage : (before after : Stored) (why : MountTrouble) → FailsToMount before why after → TellsSoundTree before → (lines : List Line) → IsUnmounted why lines → has_line is_damage lines ≡ false
+says_no_damage before after why failed told lines broke = unmounted_undamaged before after why lines failed broke told
+
 pub unmounted_seven : (before after : Stored) (why : MountTrouble) (taking taking_after : Taking) (status : ℕ) → FailsToMount before why after → IsUnmountedSaid why taking taking_after status → TellsSoundTree before → status ≢ 7
 unmounted_seven before after why taking taking_after status failed (inl (lines, broke, inl (is, printed))) told seven =
     let bad : false ≡ true = sym (unmounted_undamaged before after why lines failed broke told) ∙ seven_lines status lines is seven in cc

@@ -7,8 +7,12 @@ use Rattle.mount_model.specs.State.{State}
 use Rattle.mount_model.specs.Mounting.{IsMounted}
 use Rattle.mount_model.specs.Failing.{FailsToMount}
 use Rattle.mount_model.specs.declared.mount_trouble.MountTrouble.{MountTrouble}
+use Rattle.script_lang.specs.declared.line.Line.{Line}
 use Rattle.program_ends.specs.Ends.{Ends}
+use Rattle.program_ends.specs.Mounting.{IsUnmounted}
+use Rattle.program_ends.specs.Outcomes.{has_line, is_damage}
 use Rattle.program_ends.specs.Output.{IsPrinted, IsCutOff}
+use Rattle.program_ends.specs.SoundTrees.{TellsSoundTree}
 use Rattle.put_program.specs.Others.{LeavesOthersStill}
 use Rattle.put_program.specs.declared.importing.Named.{Named}
 use Rattle.put_program.specs.Putting.{PutsOn}
@@ -63,7 +67,7 @@ pub record IsImported (host : ℕ) (over : Bool) (sources : List Sourced) (e : E
   pub puts : PutsEach e.stored host over sources start e.taking end e.taking_after status
   pub left : end.store ≡ after
 
--- The mounting broke off, and that was said. Or the sources were put, each as by itself.
+-- The mounting broke off, and that was said: of damage only where the store told no sound tree. Or the sources were put, each as by itself.
 pub data ImportCourse (host : ℕ) (over : Bool) (sources : List Sourced) (e : Ends) (status : ℕ) : Type 0 where
-  unmounted : (why : MountTrouble) (after : Stored) → e.stored_after ≡ Some after → FailsToMount e.stored why after → IsUnmountedSaid why e.taking e.taking_after status → ImportCourse host over sources e status
+  unmounted : (why : MountTrouble) (after : Stored) → e.stored_after ≡ Some after → FailsToMount e.stored why after → (TellsSoundTree e.stored → (lines : List Line) → IsUnmounted why lines → has_line is_damage lines ≡ false) → IsUnmountedSaid why e.taking e.taking_after status → ImportCourse host over sources e status
   imported : (after : Stored) → e.stored_after ≡ Some after → IsImported host over sources e after status → ImportCourse host over sources e status

@@ -1,3 +1,4 @@
+pub mod Called
 pub mod Folders
 pub mod Inputs
 pub mod Telling

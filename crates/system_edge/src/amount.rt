@@ -1,8 +1,9 @@
 //! How much of an input was copied, on standard error where that is a terminal and the input's length is known.
-ghost use Rattle.std.specs.Prelude.{◌≡◌, ◌<◌, ◌≤◌, ◌⊎◌, ◌+◌, ◌*◌, ◌/◌, ◌-◌, ◌^◌, min};
+ghost use Rattle.std.specs.Prelude.{◌≡◌, ◌<◌, ◌≤◌, ◌⊎◌, ◌+◌, ◌*◌, ◌/◌, ◌-◌, ◌^◌, [], min};
+ghost use Rattle.std.specs.Fs.{IsFile, file_type, metadata_len};
 
 use edge_io::{Clock, SystemClock};
-use std::fs::{self, File};
+use std::fs::{self, File, Metadata};
 use std::io::IsTerminal;
 
 /// How many bytes of how many were read, how many that are in a second, and how many seconds are left, in a line that each new one
@@ -24,24 +25,34 @@ fn milliseconds(rt: HostRuntime) -> u64 {
     SystemClock::new(rt).now() / 1_000_000
 }
 
-/// The bytes of standard input, where it is a file, and else 0.
+// The bytes of what the system describes so, where it is a plain file, and else 0.
+fn plain_length(found: &Metadata) -> u64
+    ensures plain { IsFile (file_type found.now) → result ≡ metadata_len found.now }
+    ensures other { (¬ IsFile (file_type found.now)) → result ≡ 0 }
+{
+    if found.is_file() { found.len() } else { 0 }
+}
+
+/// The bytes of standard input, where it is a file, and else 0. What the system tells of it is trusted, and where it tells nothing it is 0.
 pub fn input_length(rt: &HostRuntime) -> u64 {
     match fs::metadata(rt, "/dev/stdin") {
-        Ok(found) if found.is_file() => found.len(),
-        _ => 0,
+        Ok(found) => plain_length(&found),
+        Err(_) => 0,
     }
 }
 
-/// The bytes of a plain file, and else 0.
+/// The bytes of a plain file, and else 0. What the system tells of it is trusted, and where it tells nothing it is 0.
 pub fn file_length(file: &File) -> u64 {
     match file.metadata() {
-        Ok(found) if found.is_file() => found.len(),
-        _ => 0,
+        Ok(found) => plain_length(&found),
+        Err(_) => 0,
     }
 }
 
-/// The bytes of these files together.
-pub fn files_length(files: &[File]) -> u64 {
+/// The bytes of these files together, up to 2^64 - 1. What `file_length` answers of each of them is trusted.
+pub fn files_length(files: &[File]) -> u64
+    ensures none { files.now ≡ [] → result ≡ 0 }
+{
     let mut all: u64 = 0;
     for file in files {
         all = all.saturating_add(file_length(file));

@@ -1,9 +1,11 @@
 //! By which name the program was called, and the words behind that.
-ghost use Rattle.std.specs.Prelude.{◌≡◌, ◌++◌, ◌↔◌, ◌⊎◌, List, ℕ, IsTrue, codes};
+ghost use Rattle.std.specs.Prelude.{◌≡◌, ◌++◌, ◌↔◌, ◌⊎◌, List, ℕ, IfOk, IsTrue, codes, map, string_bytes};
+ghost use Rattle.std.specs.Vec.Iter.{into_iter_items};
+ghost use Rattle.system_edge.specs.Called.{AreCalled, IsCalled, IsProgramOf};
 
 use plfs_types::{NoMemory, Word};
 use std::alloc::Global;
-use std::env;
+use std::env::{self, Args};
 use std::io::ErrorKind;
 
 /// The program that a name is of: one file serves several, each under a name of its own.
@@ -31,26 +33,28 @@ fn is_called(path: &str, name: &str, below: &str) -> bool
 
 // Whether the last part of the path is the name of the program that copies.
 fn is_copy(name: &str) -> bool
-    ensures { IsTrue result ↔ ((name.now ≡ codes "plfs_copy") ⊎ ((folder : List ℕ) × (name.now ≡ folder ++ codes "/plfs_copy"))) }
+    ensures { IsTrue result ↔ IsCalled (codes "plfs_copy") name.now }
 {
     is_called(name, "plfs_copy", "/plfs_copy")
 }
 
 // Whether it is the name of the program that checks.
 fn is_check(name: &str) -> bool
-    ensures { IsTrue result ↔ ((name.now ≡ codes "plfs_check") ⊎ ((folder : List ℕ) × (name.now ≡ folder ++ codes "/plfs_check"))) }
+    ensures { IsTrue result ↔ IsCalled (codes "plfs_check") name.now }
 {
     is_called(name, "plfs_check", "/plfs_check")
 }
 
 // Whether it is the name of the program that serves others.
 fn is_serve(name: &str) -> bool
-    ensures { IsTrue result ↔ ((name.now ≡ codes "plfs_serve") ⊎ ((folder : List ℕ) × (name.now ≡ folder ++ codes "/plfs_serve"))) }
+    ensures { IsTrue result ↔ IsCalled (codes "plfs_serve") name.now }
 {
     is_called(name, "plfs_serve", "/plfs_serve")
 }
 
-fn program_of(name: &str) -> Program {
+pub(crate) fn program_of(name: &str) -> Program
+    ensures { IsProgramOf name.now result }
+{
     if is_copy(name) {
         Program::Copy
     } else if is_check(name) {
@@ -62,21 +66,37 @@ fn program_of(name: &str) -> Program {
     }
 }
 
-/// The program and its words, or None where one of them is no text.
-#[inline(never)]
-pub fn read_called(rt: &HostRuntime, alloc: Global) -> Result<Option<Called>, NoMemory> {
-    let mut args = match env::args(rt) {
-        Ok(args) => args,
-        Err(error) if error.kind() == ErrorKind::OutOfMemory => return Err(NoMemory),
-        Err(_) => return Ok(None),
-    };
-    let program = match args.next() {
+// Takes the first argument, which names the program. Where there is none it is `plfs`.
+fn take_program(args: &mut Args) -> Program
+    ensures { AreCalled (map (λ arg. string_bytes arg) (into_iter_items args.old)) result (map (λ arg. string_bytes arg) (into_iter_items args.new)) }
+{
+    match args.next() {
         Some(name) => program_of(name.as_str()),
         None => Program::Plfs,
-    };
-    let mut words = Vec::new(alloc);
-    for arg in args {
-        words.push(Word::copy(alloc, arg.as_str())?)?;
     }
-    Ok(Some(Called { program, words }))
+}
+
+// The program and the words of these arguments.
+fn called_of(alloc: Global, args: Args) -> Result<Called, NoMemory>
+    ensures { IfOk result (λ called. AreCalled (map (λ arg. string_bytes arg) (into_iter_items args)) called.program called.words.items) }
+{
+    let mut rest = args;
+    let program = take_program(&mut rest);
+    let mut words = Vec::new(alloc);
+    while let Some(word) = rest.next() {
+        words.push(Word::copy(alloc, word.as_str())?)?;
+    }
+    Ok(Called { program, words })
+}
+
+/// The program and its words, or None where one of them is no text.
+///
+/// That the system hands over the arguments is trusted. The first of them names the program, and the words are all others, in their order.
+#[inline(never)]
+pub fn read_called(rt: &HostRuntime, alloc: Global) -> Result<Option<Called>, NoMemory> {
+    match env::args(rt) {
+        Ok(args) => Ok(Some(called_of(alloc, args)?)),
+        Err(error) if error.kind() == ErrorKind::OutOfMemory => Err(NoMemory),
+        Err(_) => Ok(None),
+    }
 }

@@ -1,8 +1,9 @@
 //! What `plfs_copy` reads: standard input, or files one behind the other.
-ghost use Rattle.std.specs.Prelude.{◌≡◌, ◌≢◌, ◌++◌, ◌↔◌, ℕ, List, IfOk, IsTrue, codes, length, vec_len};
-ghost use Rattle.std.specs.List.{All};
-ghost use Rattle.system_edge.specs.Inputs.{BeginsWithFrom};
+ghost use Rattle.std.specs.Prelude.{◌≡◌, ◌≢◌, ◌-◌, ◌++◌, ◌↔◌, ℕ, List, IfErr, IfOk, IsTrue, codes, length, take, vec_len};
+ghost use Rattle.std.specs.List.{All, Contains};
+ghost use Rattle.system_edge.specs.Inputs.{BeginsWithFrom, all_left, input_left};
 
+use crate::sources::open_source;
 use plfs_types::Word;
 use std::alloc::Global;
 use std::cell::RefCell;
@@ -38,24 +39,28 @@ pub fn split_from(words: &[Word]) -> (&[Word], &[Word])
 }
 
 /// Files that are read one behind the other, and how many of them are behind.
+///
+/// Where they tell the bytes that they have left, these are read: all of the first one, then all of the next. A read of 0 bytes into
+/// some room comes only behind all of them. Files of the system tell none, and what they hand over is trusted.
 #[derive(Drop)]
-pub struct Files<'a> {
+pub struct Files<'a, F> {
     // The next one is the last.
-    opened: Vec<File>,
+    opened: Vec<F>,
     read: &'a RefCell<usize>,
 }
 
-/// Opens all of the files for reading, the last one first.
+/// Opens all of the files for reading, the last one first. That each is the file of its word is trusted.
 pub fn open_files<'a>(
     rt: &HostRuntime,
     alloc: Global,
     files: &'a [Word],
 ) -> Result<Vec<File>, Unopened<'a>>
-    ensures { IfOk result (λ opened. vec_len opened ≡ length files.now) }
+    ensures count { IfOk result (λ opened. vec_len opened ≡ length files.now) }
+    ensures which { IfErr result (λ unopened. Contains files.now unopened.file.now) }
 {
     let mut opened = Vec::new(alloc);
     for file in files.iter().rev() {
-        match File::open(rt, file.as_str()) {
+        match open_source(rt, file.as_str()) {
             Ok(open) => {
                 if opened.push(open).is_err() {
                     let error = io::Error::from(io::ErrorKind::OutOfMemory);
@@ -68,26 +73,30 @@ pub fn open_files<'a>(
     Ok(opened)
 }
 
-impl<'a> Files<'a> {
+impl<'a, F: Read + Drop> Files<'a, F> {
     /// These files, of which the last one comes first. How many were read to their ends is counted there.
-    pub fn new(opened: Vec<File>, read: &'a RefCell<usize>) -> Files<'a>
+    pub fn new(opened: Vec<F>, read: &'a RefCell<usize>) -> Files<'a, F>
         ensures { result.opened ≡ opened }
     {
         Files { opened, read }
     }
 
     // The next file follows.
-    fn pass(&mut self) {
-        self.opened.pop();
+    fn pass(&mut self)
+        ensures { self.new.opened.items ≡ take (length self.old.opened.items - 1) self.old.opened.items }
+    {
+        let _ = self.opened.pop();
         if let Ok(mut read) = self.read.try_borrow_mut() {
             *read = read.saturating_add(1);
         }
     }
 }
 
-impl<'a> Read for Files<'a> {
+impl<'a, F: Read + Drop> Read for Files<'a, F> {
+    ghost remaining = { λ files. all_left F.remaining files.opened.items };
+
     fn read(&mut self, buf: &mut [u8]) -> io::Result<usize> {
-        for _ in 0..self.opened.len() {
+        while !self.opened.is_empty() {
             let Some(file) = self.opened.last_mut() else {
                 return Ok(0);
             };
@@ -103,12 +112,14 @@ impl<'a> Read for Files<'a> {
 
 /// Standard input, or files in its place.
 #[derive(Drop)]
-pub enum Input<'a, R> {
+pub enum Input<'a, R, F> {
     Standard(R),
-    Files(Files<'a>),
+    Files(Files<'a, F>),
 }
 
-impl<'a, R: Read> Read for Input<'a, R> {
+impl<'a, R: Read, F: Read + Drop> Read for Input<'a, R, F> {
+    ghost remaining = { input_left R.remaining F.remaining };
+
     fn read(&mut self, buf: &mut [u8]) -> io::Result<usize> {
         match self {
             Input::Standard(reader) => reader.read(buf),

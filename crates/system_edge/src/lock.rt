@@ -4,6 +4,7 @@
 //! none, as on some file systems, the folder is served without.
 ghost use Rattle.std.specs.Prelude.{◌≡◌, ◌<◌, ◌+◌, length, vec_len, IfOk, IfErr, Err};
 
+use crate::roots::{first_marked_alone, first_unfit};
 use std::alloc::{AllocError, Global};
 use std::fmt::{Display, Formatter};
 use std::fs::{File, TryLockError};
@@ -28,8 +29,18 @@ pub enum Denial {
     InUse,
     /// ROOT names it twice.
     Twice,
+    /// A ROOT holds it.
+    Container,
+    /// A container holds it.
+    InContainer,
+    /// It has the marks of the ROOT that holds it.
+    Marks,
+    /// It has marks of its own, and a folder before it in ROOT has some too.
+    UsedAlone,
     /// Its path leaves too little room for those of its items.
     TooLong,
+    /// What makes it a container, or its marks, can't be looked at.
+    Unseen { error: io::Error },
     /// It can't be opened to be listed.
     Unlisted { error: io::Error },
     /// Memory was refused.
@@ -41,7 +52,23 @@ impl Display for Denial {
         match self {
             Denial::InUse => write!(f, "in use by another program"),
             Denial::Twice => write!(f, "it is named twice"),
+            Denial::Container => { write!(f, "it is a container; give the folder that holds it") }
+            Denial::InContainer => {
+                write!(
+                    f,
+                    "it lies in a container; give the folder that holds that one"
+                )
+            }
+            Denial::Marks => write!(
+                f,
+                "it has the marks of a ROOT; give the folder that holds it"
+            ),
+            Denial::UsedAlone => write!(
+                f,
+                "it has marks of its own, so it or a folder before it was used alone"
+            ),
             Denial::TooLong => write!(f, "its path is longer than {MOST_PATH} bytes"),
+            Denial::Unseen { error } => write!(f, "look: {error}"),
             Denial::Unlisted { error } => write!(f, "list: {error}"),
             Denial::NoMemory => write!(f, "memory was refused"),
         }
@@ -55,12 +82,15 @@ pub struct Denied {
     pub why: Denial,
 }
 
-/// Locks these folders, in their order. It waits for nobody, and nothing in them is touched.
+/// Locks these folders, in their order. It waits for nobody, and nothing in them is touched. None is locked where one is no folder of a ROOT.
 #[inline(never)]
 pub fn lock_folders(rt: &HostRuntime, folders: &[&str]) -> Result<Locks, Denied>
     ensures each { IfOk result (λ locks. vec_len locks.held ≡ length folders.now) }
     ensures place { IfErr result (λ denied. denied.place < length folders.now) }
 {
+    if let Some(denied) = first_unfit(rt, folders) {
+        return Err(denied);
+    }
     let mut held = Vec::new(rt.alloc());
     for place in 0..folders.len() {
         let end = match lock_folder(rt, &held, folders[place]) {
@@ -71,7 +101,10 @@ pub fn lock_folders(rt: &HostRuntime, folders: &[&str]) -> Result<Locks, Denied>
             return Err(Denied { place, why });
         }
     }
-    Ok(Locks { held })
+    match first_marked_alone(rt, folders) {
+        Some(denied) => Err(denied),
+        None => Ok(Locks { held }),
+    }
 }
 
 fn keep(held: &mut Vec<File>, folder: File) -> Result<(), Denial>

@@ -72,24 +72,36 @@ impl Said {
         if !self.has_lines && self.written > MOST_REMEMBERED as u64 {
             return;
         }
-        for byte in bytes {
-            if !self.is_of_damage {
-                self.hear_byte(*byte);
+        let mut is_first = true;
+        for part in bytes.split(|byte| *byte == b'\n') {
+            if !is_first {
+                self.end_line();
             }
+            is_first = false;
+            self.remember(part);
         }
     }
 
-    fn hear_byte(&mut self, byte: u8) {
-        if self.is_lost {
+    // The line is at its end: unless it tells of damage it is forgotten.
+    fn end_line(&mut self) {
+        if self.is_of_damage || self.is_lost {
             return;
         }
-        if byte == b'\n' {
-            if is_of_damage(self.line.as_slice()) {
-                self.is_of_damage = true;
-            } else {
-                self.line.clear();
-            }
-        } else if self.line.len() < MOST_REMEMBERED && self.line.push(byte).is_err() {
+        if is_of_damage(self.line.as_slice()) {
+            self.is_of_damage = true;
+        } else {
+            self.line.clear();
+        }
+    }
+
+    // Remembers more of the line, unless one of damage is remembered.
+    fn remember(&mut self, part: &[u8]) {
+        if self.is_of_damage || self.is_lost {
+            return;
+        }
+        let room = MOST_REMEMBERED.saturating_sub(self.line.len());
+        let count = part.len().min(room);
+        if self.line.extend_from_slice(&part[..count]).is_err() {
             self.line.clear();
             self.is_lost = true;
         }
@@ -98,8 +110,8 @@ impl Said {
 
 // Whether a line tells of damage: behind its number stands the word.
 fn is_of_damage(line: &[u8]) -> bool {
-    match str::from_utf8(line).unwrap_or("").split_once(' ') {
-        Some((_, what)) => what.starts_with("damaged "),
+    match line.iter().position(|byte| *byte == b' ') {
+        Some(place) => line[place..].starts_with(b" damaged ") && str::from_utf8(line).is_ok(),
         None => false,
     }
 }
@@ -113,6 +125,8 @@ pub struct Saying<'a, 'b, W> {
 }
 
 impl<'a, 'b, W: Write> Write for Saying<'a, 'b, W> {
+    ghost contents = { λ saying. W.contents saying.writer };
+
     fn write(&mut self, buf: &[u8]) -> io::Result<usize> {
         if let Ok(mut amount) = self.amount.try_borrow_mut() {
             amount.clear();

@@ -90,7 +90,7 @@ module _ (m : Moment) (sound : IsSoundAt m) (n : ℕ) (history : List Event) (bl
   abbrev At : List Event → List Entry
   At done = (moment_after m done).issued d.room id
 
-  at_more : (done es : List Event) → NoneWritten id es → At (done ++ es) ≡ At done
+  pub at_more : (done es : List Event) → NoneWritten id es → At (done ++ es) ≡ At done
   at_more done es none = ap (λ (x : Moment). x.issued d.room id) (moment-append m done es) ∙ nothing_issued (moment_after m done) es d.room id none
 
   -- a write that is answered is issued
@@ -128,10 +128,10 @@ module _ (m : Moment) (sound : IsSoundAt m) (n : ℕ) (history : List Event) (bl
     lawful_here : (a : List Event) (e : Event) (b : List Event) → p.mine ≡ a ++ e ∷ b → IsLawful m.state ((p.earlier ++ a) ++ e ∷ (b ++ p.later))
     lawful_here a e b split = subst (IsLawful m.state) (in_history a e b split) whole.lawful
 
-    sound_here : (a : List Event) (e : Event) (b : List Event) → p.mine ≡ a ++ e ∷ b → IsSoundAt (moment_after m (p.earlier ++ a))
+    pub sound_here : (a : List Event) (e : Event) (b : List Event) → p.mine ≡ a ++ e ∷ b → IsSoundAt (moment_after m (p.earlier ++ a))
     sound_here a e b split = sound_after m (p.earlier ++ a) (legal_first m (p.earlier ++ a) (e ∷ (b ++ p.later)) (lawful_here a e b split)) sound
 
-    row_here : (a : List Event) (e : Event) (b : List Event) → p.mine ≡ a ++ e ∷ b → IsWrite id e → IsRowIn (moment_after m (p.earlier ++ a)).state d.room id
+    pub row_here : (a : List Event) (e : Event) (b : List Event) → p.mine ≡ a ++ e ∷ b → IsWrite id e → IsRowIn (moment_after m (p.earlier ++ a)).state d.room id
     row_here a e b split w = (only_its (p.earlier ++ a) e (b ++ p.later) (in_history a e b split) w).1
 
     -- who writes in the part
@@ -145,7 +145,7 @@ module _ (m : Moment) (sound : IsSoundAt m) (n : ℕ) (history : List Event) (bl
     no_write_there none a e b split w = (let o = writes_here a e b split w in no_write_statement t.statement o.at o.content none o.says)
 
     -- behind the statement's calls others call
-    rest_none : NoneWritten id s.rest
+    pub rest_none : NoneWritten id s.rest
     rest_none =
         let is : history ≡ (p.earlier ++ s.front) ++ (s.rest ++ p.later) = p.split ∙ ap (λ z. p.earlier ++ (z ++ p.later)) s.split ∙ ap (λ z. p.earlier ++ z) (append_assoc s.front s.rest p.later) ∙ sym (append_assoc p.earlier s.front (s.rest ++ p.later)) in
         idle_none (p.earlier ++ s.front) s.rest p.later is s.none_behind
@@ -278,7 +278,7 @@ module _ (m : Moment) (sound : IsSoundAt m) (n : ℕ) (history : List Event) (bl
             subst If (sym (agrees.latest x has ∙ is)) (on_call f.0 (halved f.0 s.front f.1) f.2 (same_id is))
         by false is = subst If (sym (agrees.latest x has ∙ is)) (wrote_other acc x (not_this is) has new agrees)
 
-    line_goes : (acc : Account) → HasEntered n p.earlier d → Agrees writer p.earlier acc → Behind acc t.statement t.outcome
+    pub line_goes : (acc : Account) → HasEntered n p.earlier d → Agrees writer p.earlier acc → Behind acc t.statement t.outcome
     line_goes acc entered agrees = by (writer_line m n (record { before = p.earlier; events = s.front }) t.statement writer t.outcome s.new_writer s.writes)
       where
         none_by : IsNoWrite t.statement ⊎ ((t.outcome ≡ line.Stopped) ⊎ (t.outcome ≡ line.Gone)) ⊎ ((x : OneWriter) → writer ≡ Some x → writes_told x.dropping.writer s.front ≡ 0) → NoneWritten id p.mine
@@ -296,7 +296,7 @@ module _ (m : Moment) (sound : IsSoundAt m) (n : ℕ) (history : List Event) (bl
   agrees_later : (writer : Option OneWriter) (done idle : List Event) (a : Account) → NoneWritten id idle → Agrees writer done a → Agrees writer (done ++ idle) a
   agrees_later writer done idle a none agrees = record { latest = agrees.latest; writes = ap (map change_of) (at_more done idle none) ∙ agrees.writes }
 
-  waited : (done later rest : List Event) → history ≡ later ++ rest → Idles n history blocks done later → (writer : Option OneWriter) (a : Account) → Agrees writer done a → Agrees writer later a
+  pub waited : (done later rest : List Event) → history ≡ later ++ rest → Idles n history blocks done later → (writer : Option OneWriter) (a : Account) → Agrees writer done a → Agrees writer later a
   waited done later rest is i writer a agrees =
       subst (λ es. Agrees writer es a) (sym i.is) (agrees_later writer done i.idle a (idle_none done i.idle rest (is ∙ ap (λ z. z ++ rest) i.is ∙ append_assoc done i.idle rest) i.none) agrees)
 
@@ -311,7 +311,7 @@ module _ (m : Moment) (sound : IsSoundAt m) (n : ℕ) (history : List Event) (bl
 -- ---- from the line on that opened the writer
 
 -- what comes behind a line
-record FromLine (m : Moment) (sound : IsSoundAt m) (n : ℕ) (history : List Event) (blocks : List (List Event)) (whole : Next m [] history) (t : Told) (rest : List Told) : Type 0 where
+pub record FromLine (m : Moment) (sound : IsSoundAt m) (n : ℕ) (history : List Event) (blocks : List (List Event)) (whole : Next m [] history) (t : Told) (rest : List Told) : Type 0 where
   pub kept : Kept
   pub file : Option OneFile
   pub writer : Option OneWriter
@@ -320,7 +320,7 @@ record FromLine (m : Moment) (sound : IsSoundAt m) (n : ℕ) (history : List Eve
   pub shown : IsShown m sound n history blocks whole kept file writer t part.earlier part.mine
   pub more : ShownEach m sound n history blocks whole (part.earlier ++ part.mine) part.e.kept shown.new shown.new_writer rest
 
-from_line : (m : Moment) (sound : IsSoundAt m) (n : ℕ) (history : List Event) (blocks : List (List Event)) (whole : Next m [] history) (ts : List Told) (t : Told) (rest : List Told) (done : List Event) (kept : Kept) (file : Option OneFile) (writer : Option OneWriter)
+pub from_line : (m : Moment) (sound : IsSoundAt m) (n : ℕ) (history : List Event) (blocks : List (List Event)) (whole : Next m [] history) (ts : List Told) (t : Told) (rest : List Told) (done : List Event) (kept : Kept) (file : Option OneFile) (writer : Option OneWriter)
     → ShownEach m sound n history blocks whole done kept file writer (ts ++ t ∷ rest) → FromLine m sound n history blocks whole t rest
 from_line m sound n history blocks whole [] t rest done kept file writer (p, says, idle, s, more) = record { kept = kept; file = file; writer = writer; part = p; says = says; shown = s; more = more }
 from_line m sound n history blocks whole (q ∷ ts) t rest done kept file writer (p, says, idle, s, more) = from_line m sound n history blocks whole ts t rest (p.earlier ++ p.mine) p.e.kept s.new s.new_writer more

@@ -23,10 +23,10 @@ use Rattle.headline_laws.specs.OneWriter.{OneWriter}
 use Rattle.headline_laws.proofs.Plays.Facts.{Next}
 use Rattle.headline.specs.Run.{IsLine, Run, Says, Told, before, own, told}
 use Rattle.headline.specs.Trees.{Has}
-use Rattle.headline.specs.Writers.{Account, account_of, after_line, host_of, nothing, told_of}
+use Rattle.headline.specs.Writers.{Account, account, account_of, after_line, cap_of, host_of, nothing, told_of}
 use Rattle.headline.specs.Changes.{Writing, id_of, none, writer_at, writing_after, writing_next}
 use Rattle.headline_laws.proofs.Contents.FirstOpen.{FirstOpen, OpensNot, all_first, all_rest, first_open}
-use Rattle.headline_laws.proofs.Contents.OpenedWriter.{Behind, First, Home, Opening, Whole, entered_so, go, its, sound_first, started}
+use Rattle.headline_laws.proofs.Contents.OpenedWriter.{Behind, First, Home, Opening, Whole, account_is, entered_so, go, its, sound_first, started}
 use Rattle.headline_laws.proofs.Landed.Bounded.{Keeps, idle_keeps}
 use Rattle.headline_laws.proofs.Landed.Machines.{sync_latest, write_latest}
 use Rattle.headline_laws.proofs.OrderlyLines.Places.{own_split}
@@ -87,7 +87,7 @@ latest_stays id cap (t ∷ ts) a v not orderly has =
     (h.had, λ latest. r.1 (h.latest ∙ latest))
 
 -- a line of the actor opened it
-record OpenedIn (id : ℕ) (ts : List Told) : Type 0 where
+pub record OpenedIn (id : ℕ) (ts : List Told) : Type 0 where
   pub line_of : Told
   pub among_them : Among line_of ts
   pub says : line_of.outcome ≡ line.Opened id
@@ -130,7 +130,7 @@ among_first t [] ys at = absurd at
 among_first t (x ∷ xs) ys (inl same) = inl same
 among_first t (x ∷ xs) ys (inr at) = inr (among_first t xs ys at)
 
-none_among : (id : ℕ) (ts : List Told) (t : Told) → AllByRecursion (OpensNot id) ts → Among t ts → t.outcome ≡ line.Opened id → ⊥
+pub none_among : (id : ℕ) (ts : List Told) (t : Told) → AllByRecursion (OpensNot id) ts → Among t ts → t.outcome ≡ line.Opened id → ⊥
 none_among id [] t opens at says = absurd at
 none_among id (x ∷ ts) t opens (inl same) says = opens.0 (ap (λ (z : Told). z.outcome) (sym same) ∙ says)
 none_among id (x ∷ ts) t opens (inr at) says = none_among id ts t opens.1 at says
@@ -175,27 +175,36 @@ module _ (run : Run) (times : Option (List ℕ)) (mount : Stored) (start end : S
     pub latest : acc.latest ≡ true
     pub entered : HasEntered c.parts.number p.earlier d
     pub keeps : Keeps Begins sound_begins c.parts.number right.history right.calls.blocks WholeOf cap d p.earlier kept acc
+    -- the line that opened it, and those before, between and behind
+    pub pre : List Told
+    pub o : Told
+    pub between : List Told
+    pub rest : List Told
+    pub opens : o.outcome ≡ line.Opened id
+    pub before_is : own t.actor (before run t) ≡ pre ++ o ∷ between
+    pub all_is : own t.actor (told run) ≡ pre ++ o ∷ (between ++ t ∷ rest)
+    pub account_so : account run t.actor id (before run t) ≡ acc
 
   module _ (t : Told) (id : ℕ) (is_line : IsLine run t) (its_id : writer_at run t ≡ Some id) where
-    abbrev Earlier : List Told
+    abbrev pub Earlier : List Told
     Earlier = own t.actor (before run t)
 
     abbrev c : ChainOf run Begins end fits sound_begins right t.actor
     c = chain_of run Begins end fits sound_begins right t is_line
 
-    abbrev rest : List Told
+    abbrev pub rest : List Told
     rest = (own_split run t (among (told run) t is_line)).rest
 
-    split : own t.actor (told run) ≡ Earlier ++ t ∷ rest
+    pub split : own t.actor (told run) ≡ Earlier ++ t ∷ rest
     split = (own_split run t (among (told run) t is_line)).is
 
     orderly : AllByRecursion Orderly (Earlier ++ t ∷ rest)
     orderly = subst (AllByRecursion Orderly) split (own_orderly t.actor)
 
-    opener : OpenedIn id Earlier
+    pub opener : OpenedIn id Earlier
     opener = opened_from id Earlier (opened_in id Earlier none (all_first Orderly Earlier (t ∷ rest) orderly) its_id)
 
-    fo : FirstOpen id (own t.actor (told run))
+    pub fo : FirstOpen id (own t.actor (told run))
     fo = first_open id (own t.actor (told run)) opener.line_of (subst (Among opener.line_of) (sym split) (among_first opener.line_of Earlier (t ∷ rest) opener.among_them)) opener.says
 
     abbrev b : Opening run times mount start end fits mounted tells sound right left t.actor c id fo.o.phase fo.post []
@@ -238,6 +247,14 @@ module _ (run : Run) (times : Option (List ℕ)) (mount : Stored) (start end : S
             latest = latest;
             entered = subst (λ es. HasEntered c.parts.number es b.d) (sym idle.is) (entered_more c.parts.number T.from idle.idle b.d T.entered);
             keeps = idle_keeps Begins sound_begins c.parts.number right.history right.calls.blocks WholeOf b.cap b.d T.from p.earlier (p.mine ++ p.later) T.kept acc p.split idle T.keeps;
+            pre = fo.pre;
+            o = fo.o;
+            between = u;
+            rest = rest;
+            opens = fo.says;
+            before_is = earlier_is;
+            all_is = fo.is ∙ ap (λ z. fo.pre ++ fo.o ∷ z) post_is;
+            account_so = ap (account_of id (cap_of (slice_get run.script.actors t.actor)) (nothing false)) earlier_is ∙ account_is run times mount start end fits mounted tells sound right left t.actor c id fo.o.phase fo.post [] b fo.pre fo.o u fo.says;
           }
 
     pub at_line : AtLine t id

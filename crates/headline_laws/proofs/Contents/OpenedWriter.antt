@@ -29,9 +29,11 @@ use Rattle.headline_laws.proofs.Contents.Accounts.{account_from}
 use Rattle.headline_laws.proofs.Contents.Counted.{Begin, sound_begin}
 use Rattle.headline_laws.proofs.Contents.Entering.{entered_behind, new_there}
 use Rattle.headline_laws.proofs.Landed.Beginning.{LineAt, begun_line, line_at}
+use Rattle.headline_laws.proofs.Statements.Capacity.{HasCap}
 use Rattle.headline_laws.proofs.Landed.Folded.{Through, through}
-use Rattle.headline_laws.proofs.Statements.LivingLines.{line_opens, opened_alive}
+use Rattle.headline_laws.proofs.Statements.LivingLines.{line_opens, opened_alive, opened_fresh}
 use Rattle.headline_laws.proofs.Landed.Machines.{KeepsTo}
+use Rattle.headline_laws.proofs.Statements.Did.{IsOpen}
 use Rattle.headline_laws.proofs.Statements.Hosts.{declared_of}
 use Rattle.headline_laws.proofs.Statements.Known.{HasEntered, Known, entered_more}
 use Rattle.headline_laws.proofs.Story.Entered.{entered_once}
@@ -129,6 +131,8 @@ module _ (run : Run) (times : Option (List ℕ)) (mount : Stored) (start end : S
     pub keeps : KeepsTo c.parts.number d cap (moment_after First (earlier ++ mine)) kept (nothing true)
     -- the actor goes on, and the table has it open
     pub alive : kept.gone ≡ false
+    pub fresh : IsOpen kept.writer
+    pub caps : HasCap d.writer cap (moment_after First (earlier ++ mine)).state.table.writers
     pub open_now : IsOpenNow c.parts.number d.writer (moment_after First (earlier ++ mine)).state
 
   pub opening : (actor : ℕ) (c : ChainOf run First end fits sound_first right actor) (id : ℕ) (xs : List Told) (o : Told) (post : List Told) (done : List Event) (kept : Kept) (file : Option OneFile) (writer : Option OneWriter) (r : Option Told) (w : Writing)
@@ -162,7 +166,9 @@ module _ (run : Run) (times : Option (List ℕ)) (mount : Stored) (start end : S
             its_id = b.its_id;
             entered_in = b.entered;
             keeps = b.keeps;
+            caps = b.caps;
             alive = opened_alive First c.parts.number right.history right.calls.blocks Whole id l.kept o l.part l.says says;
+            fresh = opened_fresh First c.parts.number right.history right.calls.blocks Whole id l.kept o l.part l.says says;
             open_now = subst (λ k. IsOpenNow c.parts.number k (moment_after First (l.part.earlier ++ l.part.mine)).state) (sym b.its_id) (line_opens First c.parts.number right.history right.calls.blocks Whole id l.kept o l.part l.says says);
           }
 

@@ -1,10 +1,12 @@
 -- Behind the line that opened a writer nothing of it has landed, and its actor has it open.
 use Rattle.std.proofs.Common.{◌≡◌, ◌≤◌, inl, ℕ, true, false, Bool, List, [], ◌∷◌, ◌++◌, length, Option, Some, Ok, refl, sym, ap, ◌∙◌, subst, append_assoc, arith, length-append}
 use Rattle.std.proofs.lemmas.List.{append-nil}
+use Rattle.mount_model.specs.declared.call.Ask.{Ask}
 use Rattle.mount_model.specs.History.{Event, state_after}
 use Rattle.mount_sound.specs.Owed.{IsLawful}
 use Rattle.mount_model.specs.Running.{Runs}
-use Rattle.reader_laws.specs.Moments.{Dropping, IsSoundAt, Moment, moment_after}
+use Rattle.reader_laws.specs.Moments.{Dropping, IsSoundAt, Moment, moment_after, next_moment}
+use Rattle.reader_laws.proofs.Gathered.Moments.Stepping.{sound_next}
 use Rattle.reader_laws.proofs.Gathered.Facts.{follows, legal_first, legal_rest, moment-append, sound_after}
 use Rattle.writer_flow.specs.declared.handle.WriterHandle.{WriterHandle}
 use Rattle.writer_flow.specs.Opening.{open_program}
@@ -23,6 +25,9 @@ use Rattle.headline.specs.Changes.{Writing, writing_after, writing_next}
 use Rattle.headline.specs.Writers.{nothing}
 use Rattle.headline_laws.proofs.Contents.Entering.{entered_behind}
 use Rattle.headline_laws.proofs.Landed.Between.{AtPlace}
+use Rattle.headline_laws.proofs.Statements.Capacity.{HasCap, caps_later, row_has_cap}
+use Rattle.headline_laws.proofs.Landed.Leaving.{row_drawn}
+use Rattle.headline_laws.proofs.Makers.Rows.{EnteredRow, entered_row}
 use Rattle.headline_laws.proofs.Landed.Machines.{IsOpenSo, KeepsTo}
 use Rattle.headline_laws.proofs.Landed.Openings.{opened_cap, opened_within}
 use Rattle.headline_laws.proofs.Statements.Hosts.{SameHost, comes_so, declared_of, statement_host}
@@ -99,6 +104,7 @@ pub record Begun (m : Moment) (n cap : ℕ) (handle : WriterHandle) (earlier fir
   pub its_id : d.writer ≡ handle.writer
   pub entered : HasEntered n first d
   pub keeps : (kept : Kept) → kept.writer ≡ Some handle → IsOpenSo n d cap (moment_after m (earlier ++ first)) kept (nothing true)
+  pub caps : HasCap d.writer cap (moment_after m (earlier ++ first)).state.table.writers
 
 not_both : (b : Bool) → b ≡ false → b ≡ true → ⊥
 not_both b x y = cc
@@ -127,6 +133,7 @@ begun m n name host cap handle earlier first later sound lawful runs = record {
     at = place;
     holds = opened_within (moment_after m (earlier ++ first)) n it o.row place o.none;
   };
+  caps = its_caps;
 }
   where
     start : Moment
@@ -156,6 +163,19 @@ begun m n name host cap handle earlier first later sound lawful runs = record {
     entering : first ≡ front ++ e.entering ∷ e.rest
     entering = e.all ∙ sym (append_assoc e.first (e.making ∷ e.between) (e.entering ∷ e.rest))
 
+    its_caps : HasCap handle.writer cap (moment_after m (earlier ++ first)).state.table.writers
+    its_caps =
+        let split : IsLawful start.state (front ++ e.entering ∷ e.rest) = subst (IsLawful start.state) entering its_lawful in
+        let mid : Moment = moment_after start front in
+        let mid_sound : IsSoundAt mid = sound_after start front (legal_first start front (e.entering ∷ e.rest) split) start_sound in
+        let here : IsLawful mid.state (e.entering ∷ e.rest) = legal_rest start front (e.entering ∷ e.rest) split in
+        let x : EnteredRow n e.room host cap handle.writer e.entering.after = entered_row n e.room host cap handle.writer mid e.entering mid_sound here.1 e.enters.0 (ap (λ (a : Ask). a.call) e.enters.1) e.entered in
+        let next_sound : IsSoundAt (next_moment mid e.entering) = sound_next mid e.entering e.rest here mid_sound in
+        let later = caps_later handle.writer cap (next_moment mid e.entering) e.rest next_sound here.2 (row_drawn handle.writer x.row e.entering.after next_sound.regular x.has.there)
+        (row_has_cap handle.writer cap x.row e.entering.after.table.writers x.has.there x.capacity) in
+        let is : moment_after m (earlier ++ first) ≡ moment_after (next_moment mid e.entering) e.rest = moment-append m earlier first ∙ ap (moment_after start) entering ∙ moment-append start front (e.entering ∷ e.rest) in
+        subst (λ (z : Moment). HasCap handle.writer cap z.state.table.writers) (sym is) later
+
     ends : (moment_after m (earlier ++ first)).state ≡ state_after start.state first
     ends = ap (λ (x : Moment). x.state) (moment-append m earlier first) ∙ (follows start first).0
 
@@ -174,6 +194,7 @@ module _ (m : Moment) (sound : IsSoundAt m) (n : ℕ) (history : List Event) (bl
     pub its_id : d.writer ≡ id
     pub entered : HasEntered n mine d
     pub keeps : KeepsTo n d cap (moment_after m (earlier ++ mine)) kept (nothing true)
+    pub caps : HasCap d.writer cap (moment_after m (earlier ++ mine)).state.table.writers
 
   pub begun_line : (id : ℕ) (kept : Kept) (t : Told) (p : PartOf n history blocks kept t.phase t.statement) → t.outcome ≡ p.e.outcome → t.outcome ≡ line.Opened id → BegunLine kept.cap id p.e.kept p.earlier p.mine
   begun_line id kept t p says opened = from (opening_came n o.0 id p.spent p.e ends kept p.mine (subst (λ s. Comes n (work_of kept s) p.mine p.spent p.e) o.1 p.comes))
@@ -199,4 +220,5 @@ module _ (m : Moment) (sound : IsSoundAt m) (n : ℕ) (history : List Event) (bl
             its_id = b.its_id ∙ r.is;
             entered = subst (λ es. HasEntered n es b.d) mine_is (entered_behind n r.pre r.first b.d b.entered);
             keeps = subst (λ es. KeepsTo n b.d kept.cap (moment_after m es) p.e.kept (nothing true)) (sym same) (inl (b.keeps p.e.kept r.keeps));
+            caps = subst (λ es. HasCap b.d.writer kept.cap (moment_after m es).state.table.writers) (sym same) b.caps;
           }

@@ -50,7 +50,7 @@ true_not_false : (b : Bool) → b ≡ true → b ≡ false → ⊥
 true_not_false b x y = cc
 
 -- a statement opens no writer where its actor has one
-none_opened : (writer : Option WriterHandle) (handle : WriterHandle) (reader : Option OpenReader) (s : Statement) (o : Outcome) → writer ≡ Some handle → IsOfKindOr s o → (WasMade o → Had writer reader s) → IsNotOpened o
+pub none_opened : (writer : Option WriterHandle) (handle : WriterHandle) (reader : Option OpenReader) (s : Statement) (o : Outcome) → writer ≡ Some handle → IsOfKindOr s o → (WasMade o → Had writer reader s) → IsNotOpened o
 none_opened writer handle reader (say.Open name) (line.Opened id) has kind uses = absurd (let none : writer ≡ None = uses tt in let clash : Some handle ≡ None = sym has ∙ none in cc)
 none_opened writer handle reader s (line.Opened id) has kind uses = absurd kind
 none_opened writer handle reader s o has kind uses = tt

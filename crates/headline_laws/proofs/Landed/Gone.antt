@@ -213,19 +213,20 @@ module _ (me : ℕ) (d : Dropping) where
 
 -- ---- the metadata were made
 
-put_told : (w : ℕ) (r : Row) (old new : State) (told : Told) → row_of w old.table.writers ≡ Some r → r.id ≡ w → new.table ≡ (put_meta_outcome r old.table told).table → reply.Done ≡ (put_meta_outcome r old.table told).reply → (x : Row) → row_of w new.table.writers ≡ Some x → x.has_meta ≡ true
-put_told w r old new told held id t done x found = by told t done
+-- the writer's row is such a one, as each is whose metadata dropping was made
+put_told : (P : Row → Type 0) → ((r : Row) → P (closed r)) → (w : ℕ) (r : Row) (old new : State) (told : Told) → row_of w old.table.writers ≡ Some r → r.id ≡ w → new.table ≡ (put_meta_outcome r old.table told).table → reply.Done ≡ (put_meta_outcome r old.table told).reply → (x : Row) → row_of w new.table.writers ≡ Some x → P x
+put_told P each w r old new told held id t done x found = by told t done
   where
-    as_closed : new.table.writers ≡ with_row (closed r) old.table.writers → x.has_meta ≡ true
+    as_closed : new.table.writers ≡ with_row (closed r) old.table.writers → P x
     as_closed rows =
         let at : row_of r.id old.table.writers ≡ Some r = subst (λ n. row_of n old.table.writers ≡ Some r) (sym id) held in
         let put : row_of w new.table.writers ≡ Some (closed r) = ap (row_of w) rows ∙ subst (λ n. row_of n (with_row (closed r) old.table.writers) ≡ Some (closed r)) id (row_of-with_row (closed r) old.table.writers r at) in
-        one (closed r) (row_of w new.table.writers) put found refl
+        one (closed r) (row_of w new.table.writers) put found (each r)
       where
-        one : (y : Row) (o : Option Row) → o ≡ Some y → o ≡ Some x → y.has_meta ≡ true → x.has_meta ≡ true
-        one y o p q has = let same : y ≡ x = cc in subst (λ (z : Row). z.has_meta ≡ true) same has
+        one : (y : Row) (o : Option Row) → o ≡ Some y → o ≡ Some x → P y → P x
+        one y o p q has = let same : y ≡ x = cc in subst P same has
 
-    by : (it : Told) → new.table ≡ (put_meta_outcome r old.table it).table → reply.Done ≡ (put_meta_outcome r old.table it).reply → x.has_meta ≡ true
+    by : (it : Told) → new.table ≡ (put_meta_outcome r old.table it).table → reply.Done ≡ (put_meta_outcome r old.table it).reply → P x
     by (Ok Made) table says = as_closed (ap (λ (b : Table). b.writers) table)
     by (Ok (Old room)) table says = as_closed (ap (λ (b : Table). b.writers) table)
     by (Ok NoRoom) table says = absurd (cc)
@@ -234,13 +235,16 @@ put_told w r old new told held id t done x found = by told t done
     by (Err trouble.Fault) table says = absurd (cc)
     by (Err trouble.NoMemory) table says = absurd (cc)
 
-pub meta_made : (me w : ℕ) (old new : State) (rep : Reply) → Answers old me (PutMeta w) rep new → rep ≡ reply.Done → (x : Row) → HasRow me w x new → x.has_meta ≡ true
-meta_made me w old new rep answers done x has = elim (match_cases (writer_of me may_close w old.table.writers) _ _ answers) as (λ _. x.has_meta ≡ true) [
+pub meta_put : (P : Row → Type 0) → ((r : Row) → P (closed r)) → (me w : ℕ) (old new : State) (rep : Reply) → Answers old me (PutMeta w) rep new → rep ≡ reply.Done → (x : Row) → HasRow me w x new → P x
+meta_put P each me w old new rep answers done x has = elim (match_cases (writer_of me may_close w old.table.writers) _ _ answers) as (λ _. P x) [
   | inl (none, refused) ↦ absurd (let clash : reply.Refused NotOpen ≡ reply.Done = sym refused.0 ∙ done in cc)
-  | inr (r, found, u) ↦ elim (match_cases (put_meta_check r) _ _ u) as (λ _. x.has_meta ≡ true) [
+  | inr (r, found, u) ↦ elim (match_cases (put_meta_check r) _ _ u) as (λ _. P x) [
     | inr (why, is, refused) ↦ absurd (let clash : reply.Refused why ≡ reply.Done = sym refused.0 ∙ done in cc)
     | inl (fine, makes) ↦
         let h : IsHeld me may_close w old.table.writers r = is_held me may_close w old.table.writers r found in
-        put_told w r old new makes.told h.found h.is (ap (λ (s : State). s.table) makes.after) (sym done ∙ makes.answered) x has.there
+        put_told P each w r old new makes.told h.found h.is (ap (λ (s : State). s.table) makes.after) (sym done ∙ makes.answered) x has.there
   ]
 ]
+
+pub meta_made : (me w : ℕ) (old new : State) (rep : Reply) → Answers old me (PutMeta w) rep new → rep ≡ reply.Done → (x : Row) → HasRow me w x new → x.has_meta ≡ true
+meta_made = meta_put (λ x. x.has_meta ≡ true) (λ r. refl)

@@ -156,7 +156,7 @@ module _ (run : Run) (m : Moment) (end : State) (fits : FitsScript run.script) (
       here : IsLawful At.state (k.enter ∷ Rest)
       here = legal_rest m Pre (k.enter ∷ Rest) lawful
 
-      entered : EnteredRow N k.room H k.writer k.enter.after
+      entered : EnteredRow N k.room H k.most k.writer k.enter.after
       entered = entered_row N k.room H k.most k.writer At k.enter sound_at here.1 k.own k.asked k.told
 
       abbrev Next : Moment

@@ -45,13 +45,14 @@ never_drawn old regular = by (row_of (next_id old) old.table.writers) refl
     by None is = refl
     by (Some row) is = let drawn : next_id old ≤ last_id old = row_drawn (next_id old) row old regular is in absurd (omega (arith, drawn))
 
--- its row is in this container, under this host
-pub record EnteredRow (n room host w : ℕ) (state : State) : Type 0 where
+-- its row is in this container, under this host, and its buffer holds so many entries
+pub record EnteredRow (n room host most w : ℕ) (state : State) : Type 0 where
   pub row : Row
   pub has : HasRow n w row state
   pub in_room : row.room ≡ room
   pub its_host : row.host ≡ host
   pub begun : row.stage ≡ stage.Entered
+  pub capacity : row.pending.capacity ≡ most
 
 pushed : (row : Row) (table : Table) (told : Told) (w : ℕ) → reply.Entered w ≡ (enter_outcome row table told).reply → (row.id ≡ w) × ((enter_outcome row table told).table.writers ≡ table.writers ++ row ∷ [])
 pushed row table (Ok Made) w e = (cc, refl)
@@ -61,8 +62,8 @@ pushed row table (Ok answer) w e = absurd (cc)
 pushed row table (Err trouble.Fault) w e = absurd (cc)
 pushed row table (Err trouble.NoMemory) w e = absurd (cc)
 
-pub entered_so : (n room host most w : ℕ) (old new : State) → IsRegular old → Answers old n (Enter room host most) (reply.Entered w) new → EnteredRow n room host w new
-entered_so n room host most w old new regular a = elim (match_cases (draw_check old room) (EntersAs n room host most old (reply.Entered w) new) (λ why. Refuses why old (reply.Entered w) new) a) as (λ _. EnteredRow n room host w new) [
+pub entered_so : (n room host most w : ℕ) (old new : State) → IsRegular old → Answers old n (Enter room host most) (reply.Entered w) new → EnteredRow n room host most w new
+entered_so n room host most w old new regular a = elim (match_cases (draw_check old room) (EntersAs n room host most old (reply.Entered w) new) (λ why. Refuses why old (reply.Entered w) new) a) as (λ _. EnteredRow n room host most w new) [
   | inr (why, some, refused) ↦ absurd (let e : reply.Entered w ≡ reply.Refused why = refused.0 in cc)
   | inl (none, f) ↦
       let mine : Row = entered old n room host most in
@@ -76,10 +77,11 @@ entered_so n room host most w old new regular a = elim (match_cases (draw_check 
         in_room = refl;
         its_host = refl;
         begun = refl;
+        capacity = refl;
       }
 ]
 
-pub entered_row : (n room host most w : ℕ) (m : Moment) (e : Event) → IsSoundAt m → IsStep m.state e.caller e.ask e.reply e.after → e.caller ≡ n → e.ask.call ≡ Enter room host most → e.reply ≡ reply.Entered w → EnteredRow n room host w e.after
+pub entered_row : (n room host most w : ℕ) (m : Moment) (e : Event) → IsSoundAt m → IsStep m.state e.caller e.ask e.reply e.after → e.caller ≡ n → e.ask.call ≡ Enter room host most → e.reply ≡ reply.Entered w → EnteredRow n room host most w e.after
 entered_row n room host most w m e sound step own asked told =
     let a : Answers m.state e.caller e.ask.call e.reply e.after = answered_call m.state e step (λ is. let clash : reply.Stopped ≡ reply.Entered w = sym is ∙ told in absurd (cc)) (λ is. let clash : reply.NoMemory ≡ reply.Entered w = sym is ∙ told in absurd (cc)) in
     entered_so n room host most w m.state e.after sound.regular (subst (λ r. Answers m.state n (Enter room host most) r e.after) told (subst (λ c. Answers m.state n c e.reply e.after) asked (subst (λ k. Answers m.state k e.ask.call e.reply e.after) own a)))

@@ -31,7 +31,7 @@ use Rattle.run_core.specs.Course.{course_of, own as own_statements}
 use Rattle.run_core.specs.Play.{IsPlay, IsRight}
 use Rattle.run_core.specs.Written.{whose}
 use Rattle.run_core.proofs.Facts.{AreGood, AreWell, IsWell, NoFault, play_right, through_tells_good, well_or_risen, work_caused}
-use Rattle.headline_laws.specs.Undamaged.{AreUndamaged, IsUndamaged}
+use Rattle.headline_laws.specs.Undamaged.{IsUndamaged}
 use Rattle.headline_laws.proofs.Plays.Facts.{readers_show, right_counts, right_undamaged}
 use Rattle.headline.specs.Run.{IsLine, Phased, Run, Says, Told, before, beside, own, phased, told}
 use Rattle.headline.specs.Files.{reader_at}
@@ -142,10 +142,10 @@ fault_caused run start end fits right t says =
 
 -- ---- one line
 
-abbrev Here : Run → Told → Type 0
+abbrev pub Here : Run → Told → Type 0
 Here run t = Line_at t (writing_at run t) (reader_at run t) (last_outcome (own t.actor (before run t))) (own t.actor (before run t))
 
-line_here : (run : Run) (start end : State) → FitsScript run.script → IsRight run.script start run.lines end → (t : Told) → IsLine run t → Here run t
+pub line_here : (run : Run) (start end : State) → FitsScript run.script → IsRight run.script start run.lines end → (t : Told) → IsLine run t → Here run t
 line_here run start end fits right t is_line =
     let phases = run.script.phases in
     let ss = phased 0 phases in
@@ -266,17 +266,19 @@ module _ (run : Run) (t : Told) where
 
 -- ---- all fields
 
+pub kinds_told : (run : Run) (start end : State) → FitsScript run.script → IsFine start → IsClean start → IsRight run.script start run.lines end → (t : Told) → IsLine run t → IsOfKind t.statement t.outcome
+kinds_told run start end fits fine clean right t is_line =
+    let h = line_here run start end fits right t is_line in
+    let l = line_of 0 (phased 0 run.script.phases) run.lines t (among (told run) t is_line) in
+    kind_of t h.kept h.e h.says (subst IsUndamaged l.2 (all_at (λ (z : Line). IsUndamaged z.outcome) run.lines l.0 (right_undamaged run.script start run.lines end fits fine clean right) l.1)) h.ended
+
 all_orderly : (run : Run) (start end : State) → FitsScript run.script → IsFine start → IsClean start → IsRight run.script start run.lines end → ((t : Told) → Says run t line.Fault → HasRisen run.faults run.faults_after) → IsOrderly run
 all_orderly run start end fits fine clean right fault =
     let s = fine.sound clean in
     let m : Moment = record { state = start; issued = s.0 } in
     let here : (t : Told) → IsLine run t → Here run t = line_here run start end fits right in
     let all = phases_declared run.script.actors run.script.phases (recursion_from_All (FitsPhase (length run.script.actors)) run.script.phases fits.phased) in
-    let undamaged : AreUndamaged run.lines = right_undamaged run.script start run.lines end fits fine clean right in
-    let kinds : (t : Told) → IsLine run t → IsOfKind t.statement t.outcome = λ t is_line.
-    let h = here t is_line in
-    let l = line_of 0 (phased 0 run.script.phases) run.lines t (among (told run) t is_line) in
-    kind_of t h.kept h.e h.says (subst IsUndamaged l.2 (all_at (λ (z : Line). IsUndamaged z.outcome) run.lines l.0 undamaged l.1)) h.ended in
+    let kinds : (t : Told) → IsLine run t → IsOfKind t.statement t.outcome = kinds_told run start end fits fine clean right in
     let chained : (t : Told) → IsLine run t → OwnChain run t.actor = λ t is_line.
     let d = line_declared run.script.actors 0 (phased 0 run.script.phases) run.lines t (subst (AllDeclared run.script.actors) (sym (statements_phased 0 run.script.phases)) all) (among (told run) t is_line) in
     let shows = readers_show run.script m run.lines end fits s.1 right t.actor d.0 d.1 in

@@ -6,4 +6,5 @@ pub mod Held
 pub mod Issued
 pub mod Makings
 pub mod Renamed
+pub mod Tops
 pub mod Truncated

@@ -25,7 +25,7 @@ use Rattle.actor_core.specs.Stopping.{carried, is_due, one_nearer}
 use Rattle.actor_core.specs.Work.{Work}
 use Rattle.headline_laws.proofs.Plays.Facts.{ComesTo}
 use Rattle.headline_laws.proofs.Makers.Holding.{holder_found, not_own}
-use Rattle.headline_laws.proofs.Reasons.Goes.{Fact, Goes, IsSo, Stepped, anything, flattens, held, staged, stands}
+use Rattle.headline_laws.proofs.Reasons.Goes.{Fact, Goes, IsSo, Stepped, anything, flattens, held, rowed, staged, stands}
 use Rattle.headline_laws.proofs.Story.Opened.{unbroken_ask}
 
 -- ---- while others call
@@ -34,6 +34,7 @@ others : (n : ℕ) (fact : Fact) (m : Moment) (e : Event) (rest : List Event) �
 others n anything m e rest sound lawful other so = tt
 others n (stands room) m e rest sound lawful other so = (grows_after m (e ∷ []) (lawful.0, lawful.1, tt) sound).stands room Access tt so
 others n (staged w stage) m e rest sound lawful other (row, has, at) = (row, spared_row n w row m.state e.caller e.ask e.reply e.after (λ mine. absurd (other mine)) has lawful.1, at)
+others n (rowed w row) m e rest sound lawful other has = spared_row n w row m.state e.caller e.ask e.reply e.after (λ mine. absurd (other mine)) has lawful.1
 others n (held holder) m e rest sound lawful other (h, has) =
     let is = is_holding n holder m.state.table.holders h has in
     let found : holder_at holder e.after.table.holders ≡ Some h = step_holds m.state e.after e.caller e.ask e.reply holder h lawful.1 is.found (λ own. other (sym own ∙ is.owned)) in

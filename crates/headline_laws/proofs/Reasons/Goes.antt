@@ -20,11 +20,12 @@ use Rattle.reader_laws.specs.Failing.{IsContainerAt}
 use Rattle.refusal_laws.specs.Reasons.{HasReason}
 use Rattle.writer_laws.specs.Knowing.{HasRow}
 
--- what a caller has: nothing of which is asked, a container that is there, a writer at a stage, a hold, a flattening at a stage
+-- what a caller has: nothing of which is asked, a container that is there, a writer at a stage, a writer with this row, a hold, a flattening at a stage
 pub data Fact : Type 0 where
   anything : Fact
   stands : ℕ → Fact
   staged : ℕ → Stage → Fact
+  rowed : ℕ → Row → Fact
   held : ℕ → Fact
   flattens : ℕ → FlatStage → Fact
 
@@ -32,6 +33,7 @@ abbrev pub IsSo : ℕ → Fact → Moment → Type 0
 IsSo n anything m = Unit {0}
 IsSo n (stands room) m = IsContainerAt m room
 IsSo n (staged w stage) m = (row : Row) × HasRow n w row m.state × (row.stage ≡ stage)
+IsSo n (rowed w row) m = HasRow n w row m.state
 IsSo n (held holder) m = (h : Holder) × (holder_of n holder m.state.table.holders ≡ Some h)
 IsSo n (flattens id at) m = (f : Flattening) × IsUnderway n at id m.state.table.flattenings f
 

@@ -46,31 +46,31 @@ use Rattle.headline_laws.proofs.Trees.Openings.{IsOpenNow}
 
 -- ---- what acts leave of the table
 
-flush_leaves : (row : Row) (table : Table) (told : Told) → ((flush_outcome row table told).table ≡ put (flushed row) table) ⊎ ((flush_outcome row table told).table ≡ table)
+pub flush_leaves : (row : Row) (table : Table) (told : Told) → ((flush_outcome row table told).table ≡ put (flushed row) table) ⊎ ((flush_outcome row table told).table ≡ table)
 flush_leaves row table (Ok Made) = inl refl
 flush_leaves row table (Err trouble.Fault) = inr refl
 flush_leaves row table (Err trouble.NoMemory) = inr refl
 flush_leaves row table told = inr refl
 
-log_leaves : (row : Row) (table : Table) (told : Told) → ((sync_log_outcome row table told).table ≡ put (log_synced row) table) ⊎ ((sync_log_outcome row table told).table ≡ table)
+pub log_leaves : (row : Row) (table : Table) (told : Told) → ((sync_log_outcome row table told).table ≡ put (log_synced row) table) ⊎ ((sync_log_outcome row table told).table ≡ table)
 log_leaves row table (Ok Made) = inl refl
 log_leaves row table (Err trouble.Fault) = inr refl
 log_leaves row table (Err trouble.NoMemory) = inr refl
 log_leaves row table told = inr refl
 
-index_leaves : (row : Row) (table : Table) (told : Told) → ((sync_index_outcome row table told).table ≡ put (index_synced row) table) ⊎ ((sync_index_outcome row table told).table ≡ table)
+pub index_leaves : (row : Row) (table : Table) (told : Told) → ((sync_index_outcome row table told).table ≡ put (index_synced row) table) ⊎ ((sync_index_outcome row table told).table ≡ table)
 index_leaves row table (Ok Made) = inl refl
 index_leaves row table (Err trouble.Fault) = inr refl
 index_leaves row table (Err trouble.NoMemory) = inr refl
 index_leaves row table told = inr refl
 
-write_leaves : (stamp : ℕ) (row : Row) (at len : ℕ) (table : Table) (told : Told) → ((write_outcome stamp row at len table told).table ≡ put (with_write stamp row at len) table) ⊎ ((write_outcome stamp row at len table told).table ≡ table)
+pub write_leaves : (stamp : ℕ) (row : Row) (at len : ℕ) (table : Table) (told : Told) → ((write_outcome stamp row at len table told).table ≡ put (with_write stamp row at len) table) ⊎ ((write_outcome stamp row at len table told).table ≡ table)
 write_leaves stamp row at len table (Ok Made) = inl refl
 write_leaves stamp row at len table (Err trouble.Fault) = inr refl
 write_leaves stamp row at len table (Err trouble.NoMemory) = inr refl
 write_leaves stamp row at len table told = inr refl
 
-unless_so : (check : Option Refusal) (old : State) (rep : Reply) (new : State) (does : Type 0) → UnlessRefused check old rep new does → (new ≡ old) ⊎ does
+pub unless_so : (check : Option Refusal) (old : State) (rep : Reply) (new : State) (does : Type 0) → UnlessRefused check old rep new does → (new ≡ old) ⊎ does
 unless_so None old rep new does u = inr u
 unless_so (Some why) old rep new does u = inl u.1
 
@@ -141,7 +141,7 @@ module _ (n w : ℕ) where
         by r h (inr f) = by_table (only stage.Open) r (with_write (stamp_at f.time r) r at (length block)) _ h refl refl refl (ap (λ (s : State). s.table) f.makes.after) (write_leaves (stamp_at f.time r) r at (length block) old.table f.makes.told)
 
     -- each of them leaves it open
-    work_open : (q : Call) → IsWork q → (rep : Reply) → Answers old n q rep new → IsOpenNow n w new
+    pub work_open : (q : Call) → IsWork q → (rep : Reply) → Answers old n q rep new → IsOpenNow n w new
     work_open (call.Write id at block) is rep a = write_open at block rep (subst (λ k. Answers old n (call.Write k at block) rep new) is a)
     work_open (call.Flush id) is rep a = flush_open rep (subst (λ k. Answers old n (call.Flush k) rep new) is a)
     work_open (call.SyncLog id) is rep a = sync_log_open rep (subst (λ k. Answers old n (call.SyncLog k) rep new) is a)

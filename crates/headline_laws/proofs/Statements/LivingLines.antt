@@ -28,7 +28,7 @@ use Rattle.headline_laws.proofs.Landed.Bounded.{Keeps, idle_keeps, line_keeps}
 use Rattle.headline_laws.proofs.Statements.Living.{StaysSo, lets_open, syncs_stays, writes_stays}
 use Rattle.headline_laws.proofs.Landed.Machines.{IsOpenSo, IsOutSo, alive_does, greets}
 use Rattle.headline_laws.proofs.OrderlyLines.Standing.{stopped_or}
-use Rattle.headline_laws.proofs.Statements.Did.{StopsSo}
+use Rattle.headline_laws.proofs.Statements.Did.{IsOpen, StopsSo, WritesSo}
 use Rattle.headline_laws.proofs.Statements.Does.{Ended, did, was_gone}
 use Rattle.headline_laws.proofs.Statements.Known.{HasEntered, IsNotOpened, KeepsOld, OpensNew, entered_more, writer_step}
 use Rattle.headline_laws.proofs.Story.Opened.{OpenRun, opening_came}
@@ -195,6 +195,16 @@ module _ (m : Moment) (n : ℕ) (history : List Event) (blocks : List (List Even
       by : Ended kept t.statement p.e → p.e.kept.gone ≡ false
       by (was_gone is out now_gone) = absurd (let clash : line.Gone ≡ line.Opened id = sym out ∙ told_end in cc)
       by (did lives dd) = subst (λ o. StopsSo kept.armed false o p.e.kept.gone) told_end dd.stops
+
+  pub opened_fresh : IsOpen p.e.kept.writer
+  opened_fresh = by p.ended
+    where
+      its : (name : List ℕ) × (t.statement ≡ say.Open name)
+      its = was_open kept t.statement p.e id told_end p.ended
+
+      by : Ended kept t.statement p.e → IsOpen p.e.kept.writer
+      by (was_gone is out now_gone) = absurd (let clash : line.Gone ≡ line.Opened id = sym out ∙ told_end in cc)
+      by (did lives dd) = subst (λ o. WritesSo kept.writer (say.Open its.0) o p.e.kept.writer) told_end (subst (λ s. WritesSo kept.writer s p.e.outcome p.e.kept.writer) its.1 dd.writes)
 
   pub line_opens : IsOpenNow n id (moment_after m (p.earlier ++ p.mine)).state
   line_opens = by (was_open kept t.statement p.e id told_end p.ended)

@@ -1,5 +1,5 @@
 -- Of each writer that a line opened, the container that it entered has the index and the log in the tree after. What readers see of that which was told before.
-use Rattle.std.proofs.Common.{◌≡◌, ℕ, List, [], false, Some, sym, ◌∙◌, subst}
+use Rattle.std.proofs.Common.{◌≡◌, ℕ, [], false, Some, sym, ◌∙◌, subst}
 use Rattle.std.specs.Prelude.{Option, slice_get}
 use Rattle.container_layout.specs.declared.items.Item.{Item}
 use Rattle.container_layout.specs.declared.items.Item.TheVariants.{Index, Log}
@@ -22,6 +22,10 @@ use Rattle.headline_laws.proofs.Contents.Answered.{contents}
 use Rattle.headline_laws.proofs.Contents.Stats.{stats_told}
 use Rattle.headline_laws.proofs.Reasons.Missing.{missing_told}
 use Rattle.headline_laws.proofs.Reasons.Told.{reasons_told}
+use Rattle.headline_laws.proofs.Reasons.Unready.{unready_told}
+use Rattle.headline_laws.proofs.Stamps.Marks.{truncate_stamped}
+use Rattle.headline_laws.proofs.Stamps.Wrote.{next_stamped}
+use Rattle.headline_laws.proofs.Statements.StillOpen.{recoveries_end}
 use Rattle.headline_laws.proofs.Story.Entered.{entered_once}
 use Rattle.headline_laws.proofs.Story.Lines.{container}
 use Rattle.headline_laws.proofs.Story.Named.{names_told}
@@ -42,13 +46,13 @@ use Rattle.headline_laws.proofs.Trees.Recovered.{recoveries_told}
 use Rattle.headline_laws.proofs.Trees.Truncated.{truncates_told}
 use Rattle.headline_laws.proofs.Trees.WriterStands.{line_stands}
 
-module _ (run : Run) (times : Option (List ℕ)) (opened : Stored) (start end : State) (fits : FitsScript run.script) (mounted : IsMounted 0 times opened start) (told : opened.tree ≡ Some run.before) (sound : IsSoundTree run.before)
+module _ (run : Run) (opened : Stored) (start end : State) (fits : FitsScript run.script) (mounted : IsMounted 0 run.times opened start) (told : opened.tree ≡ Some run.before) (sound : IsSoundTree run.before)
     (right : IsRight run.script start run.lines end) (left : end.store.tree ≡ Some run.after) where
   abbrev Begin : Moment
   Begin = record { state = start; issued = sound.issued }
 
   abbrev sound_begin : IsSoundAt Begin
-  sound_begin = mounted_sound 0 times opened start run.before mounted told sound
+  sound_begin = mounted_sound 0 run.times opened start run.before mounted told sound
 
   -- the container of each line
   abbrev homes : Story
@@ -65,8 +69,8 @@ module _ (run : Run) (times : Option (List ℕ)) (opened : Stored) (start end : 
       (there (Index (host_of (slice_get run.script.actors t.actor)) id) s.index, there (Log (host_of (slice_get run.script.actors t.actor)) id) s.log)
 
   pub has_story : run.in_order ≡ false → (story : Story) × Fits run story
-  has_story free = (homes, record { names = names_told run Begin end fits sound_begin right left; opened = record { index = λ t id says. (both_here t id says).0; log = λ t id says. (both_here t id says).1; new = number_new run times opened start end fits mounted told sound right; alone = λ s t id. opened_by_one run times opened start end fits mounted told sound right left id s t }; readers = readers_told run Begin end fits sound_begin right left free; old = old_seen run times opened start end fits mounted told sound right; contents = contents run times opened start end fits mounted told sound right left free; stats = stats_told run times opened start end fits mounted told sound right left free; truncated = truncates_told run times opened start end fits mounted told sound right left free; truncs = truncs_known run times opened start end fits mounted told sound right left free; indices = indices_known run times opened start end fits mounted told sound right left; flattened = flattened_stands run times opened start end fits mounted told sound right left; listed = names_are_listed run times opened start end fits mounted told sound right left free; refusals = refusals_told run Begin end fits sound_begin right; recovered = recoveries_told run times opened start end fits mounted told sound right left free; reasons = reasons_told run Begin end fits sound_begin right; missing = missing_told run times opened start end fits mounted told sound right left free; left = writers_left run times opened start end fits mounted told sound right left; closed = writers_departed run times opened start end fits mounted told sound right left; kept = writers_kept run times opened start end fits mounted told sound right left; losses = told_survives run times opened start end fits mounted told sound right left })
+  has_story free = (homes, record { names = names_told run Begin end fits sound_begin right left; opened = record { index = λ t id says. (both_here t id says).0; log = λ t id says. (both_here t id says).1; new = number_new run run.times opened start end fits mounted told sound right; alone = λ s t id. opened_by_one run run.times opened start end fits mounted told sound right left id s t }; readers = readers_told run Begin end fits sound_begin right left free; old = old_seen run run.times opened start end fits mounted told sound right; contents = contents run run.times opened start end fits mounted told sound right left free; stats = stats_told run run.times opened start end fits mounted told sound right left free; stamped = record { wrote = next_stamped run opened start end fits mounted told sound right left; truncated = truncate_stamped run opened start end fits mounted told sound right left }; truncated = truncates_told run run.times opened start end fits mounted told sound right left free; truncs = truncs_known run run.times opened start end fits mounted told sound right left free; indices = indices_known run run.times opened start end fits mounted told sound right left; flattened = flattened_stands run run.times opened start end fits mounted told sound right left; listed = names_are_listed run run.times opened start end fits mounted told sound right left free; refusals = refusals_told run Begin end fits sound_begin right; recovered = recoveries_told run run.times opened start end fits mounted told sound right left free; ended = recoveries_end run run.times opened start end fits mounted told sound right left free homes (recoveries_told run run.times opened start end fits mounted told sound right left free); reasons = reasons_told run Begin end fits sound_begin right; missing = missing_told run run.times opened start end fits mounted told sound right left free; unready = unready_told run run.times opened start end fits mounted told sound right left; left = writers_left run run.times opened start end fits mounted told sound right left; closed = writers_departed run run.times opened start end fits mounted told sound right left; kept = writers_kept run run.times opened start end fits mounted told sound right left; losses = told_survives run run.times opened start end fits mounted told sound right left })
 
-pub play_has_story : (run : Run) (times : Option (List ℕ)) (opened : Stored) (start end : State) → FitsScript run.script → IsMounted 0 times opened start → opened.tree ≡ Some run.before → IsSoundTree run.before → IsPlay run.script start run.lines end → end.store.tree ≡ Some run.after
+pub play_has_story : (run : Run) (opened : Stored) (start end : State) → FitsScript run.script → IsMounted 0 run.times opened start → opened.tree ≡ Some run.before → IsSoundTree run.before → IsPlay run.script start run.lines end → end.store.tree ≡ Some run.after
     → run.in_order ≡ false → (story : Story) × Fits run story
-play_has_story run times opened start end fits mounted told sound play left free = has_story run times opened start end fits mounted told sound (play_right run.script start run.lines end play) left free
+play_has_story run opened start end fits mounted told sound play left free = has_story run opened start end fits mounted told sound (play_right run.script start run.lines end play) left free

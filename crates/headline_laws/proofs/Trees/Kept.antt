@@ -61,14 +61,14 @@ sure_one id v say.Close (line.Closed count) not is = absurd (let clash : none �
 sure_one id v say.Close o not is = absurd (doubted id v is)
 sure_one id v s o not is = (is, λ clash. cc)
 
-sure_stays : (id : ℕ) (ts : List Told) (v : Writing) → AllByRecursion (OpensNot id) ts → writing_after v ts ≡ writer id → (v ≡ writer id) × AllByRecursion (λ (t : Told). t.statement ≡ say.Close → ⊥) ts
+pub sure_stays : (id : ℕ) (ts : List Told) (v : Writing) → AllByRecursion (OpensNot id) ts → writing_after v ts ≡ writer id → (v ≡ writer id) × AllByRecursion (λ (t : Told). t.statement ≡ say.Close → ⊥) ts
 sure_stays id [] v not is = (is, tt)
 sure_stays id (t ∷ ts) v not is =
     let r = sure_stays id ts (writing_next v t.statement t.outcome) not.1 is in
     let q = sure_one id v t.statement t.outcome not.0 r.0 in
     (q.0, (q.1, r.1))
 
-both_all : (P Q : Told → Type 0) (ts : List Told) → AllByRecursion P ts → AllByRecursion Q ts → AllByRecursion (λ t. P t × Q t) ts
+pub both_all : (P Q : Told → Type 0) (ts : List Told) → AllByRecursion P ts → AllByRecursion Q ts → AllByRecursion (λ t. P t × Q t) ts
 both_all P Q [] p q = tt
 both_all P Q (t ∷ ts) p q = ((p.0, q.0), both_all P Q ts p.1 q.1)
 

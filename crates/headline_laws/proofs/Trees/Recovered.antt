@@ -80,6 +80,7 @@ use Rattle.headline_laws.proofs.Trees.Old.{begins_with}
 use Rattle.headline_laws.proofs.Trees.OpenListed.{entry_drawn, entry_of_index, folder_lacking, named_stood, none_stood, one_entry, stood_named}
 use Rattle.headline_laws.proofs.Trees.Reading.{fronts, last_tree}
 use Rattle.headline_laws.proofs.Trees.Still.{file_of, none_or}
+use Rattle.headline_laws.proofs.Trees.TakenHost.{one_host}
 use Rattle.headline_laws.proofs.Trees.WriterStands.{line_stands}
 use Rattle.headline_laws.proofs.Contents.OpenUntil.{StandsOpen, drawn_later, drawn_rises, stands_open}
 use Rattle.headline_laws.proofs.Statements.LivingLines.{GoesOn}
@@ -707,6 +708,7 @@ module _ (run : Run) (times : Option (List ℕ)) (mount : Stored) (start end : S
                   dead = λ o is_line opens home sooner still. never_taken b at (open_by free o b.writer (record { is_line = is_line; says = opens }) sooner home still);
                   counted = counted_so free b at;
                   landed = k.count_is ∙ many_told Ends run.after d last_is;
+                  its_host = one_host run times mount start end fits mounted tells sound right left (HomeOf t) i.burial.host b.writer (till (reader_at run t) (writing_at run t) here x) (x.listing ∷ (x.later ++ behind (reader_at run t) (writing_at run t) here)) (till_split (reader_at run t) (writing_at run t) here x) (stood_then (reader_at run t) (writing_at run t) here x v b i) (before run t) (so_far run t);
                   known = λ some. its_writer t d refl k.named (let is = k.count_is in omega (arith, some, is));
                 }
         by (x, inr (nobody, none, no_one)) = record {

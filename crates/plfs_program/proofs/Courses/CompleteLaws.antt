@@ -165,4 +165,4 @@ module _ (given after : Given) (e : Ends) (quiet : HadNoTrouble given after e) (
       pack_input_done name region bytes status command.1 (units (Pack name region) name command refl) (λ fault. asked.packable name region bytes fault command input) course
   course_done Serves words status units asked (unpacks name file command same u) = small_done _ _ _ _ _ status command.1 (units (Unpack name file) name command refl) u
   course_done Serves words status units asked (names_all name command same n) = small_done _ _ _ _ _ status command.1 (units (Names name) name command refl) n
-  course_done Serves words status units asked (hungry untouched none is) = inr (inr is)
+  course_done Serves words status units asked (hungry well untouched none is) = inr (inr is)

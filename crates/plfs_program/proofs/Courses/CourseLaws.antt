@@ -136,7 +136,7 @@ module _ (failing : FailingLeavesSound) where
   course_leaves Serves words given after e status (packs name region bytes command input course) told = pack_input_leaves name region bytes e status course told
   course_leaves Serves words given after e status (unpacks name file command same u) told = small_leaves _ _ _ _ _ e status u told
   course_leaves Serves words given after e status (names_all name command same n) told = small_leaves _ _ _ _ _ e status n told
-  course_leaves Serves words given after e status (hungry untouched none is) told = untouched_leaves e untouched told
+  course_leaves Serves words given after e status (hungry well untouched none is) told = untouched_leaves e untouched told
 
 -- ---- no status tells of damage
 
@@ -243,7 +243,7 @@ course_undamaged Serves words given after e status (packs_unread name region com
 course_undamaged Serves words given after e status (packs name region bytes command input course) told units = pack_input_undamaged name region bytes e status command.1 (units (Pack name region) name command refl) course
 course_undamaged Serves words given after e status (unpacks name file command same u) told units = small_undamaged _ _ _ _ _ e status command.1 (units (Unpack name file) name command refl) u
 course_undamaged Serves words given after e status (names_all name command same n) told units = small_undamaged _ _ _ _ _ e status command.1 (units (Names name) name command refl) n
-course_undamaged Serves words given after e status (hungry untouched none is) told units = apart status 3 is refl
+course_undamaged Serves words given after e status (hungry well untouched none is) told units = apart status 3 is refl
 
 -- ---- with threads
 
@@ -266,4 +266,4 @@ goes_as_before words given after e status not_run (packs_unread name region comm
 goes_as_before words given after e status not_run (packs name region bytes command input course) = packs name region bytes command input course
 goes_as_before words given after e status not_run (unpacks name file command same u) = unpacks name file command same u
 goes_as_before words given after e status not_run (names_all name command same n) = names_all name command same n
-goes_as_before words given after e status not_run (hungry untouched none is) = hungry untouched none is
+goes_as_before words given after e status not_run (hungry well untouched none is) = hungry well untouched none is

@@ -32,6 +32,7 @@ use Rattle.plfs_program.specs.Playing.{PlayCourse, printed, cut_off, exhausted}
 use Rattle.plfs_program.specs.Showing.{Shows, all_lines, shows_of}
 use Rattle.plfs_program.specs.Ways.{Way, by_turns, command_of, on_threads}
 use Rattle.plfs_program.specs.declared.commands.Plan.{Plan}
+use Rattle.plfs_program.proofs.Courses.PlainMounts.{sound_says}
 use Rattle.plfs_program.proofs.Streams.Inputs.{whole_input}
 use Rattle.plfs_program.proofs.Streams.Words.{one_command}
 
@@ -106,7 +107,8 @@ IsPlayCommand other = ⊥
 module _ (one_script : OneScript) (never : NeverBoth) (given after : Given) (e : Ends) (status : ℕ) (quiet : HadNoTrouble given after e) (fed : status ≢ 3) (Serves : Command → Type 0) (built : (asked : Command) → IsBuiltCommand asked → Serves asked) (words : List (List ℕ)) where
   play_plain : (script : Script) (shows : Shows) → PlayCourse by_turns script shows e status → PrintsPlainly script shows e status
   play_plain script shows (printed lines p all is) =
-      record { lines = lines; are = p; plain = lines_plain script e.times e.stored p.after lines p.in_turn p.cause (quiet.store p.after p.left); printed = all; decide = is }
+      let plain = lines_plain script e.times e.stored p.after lines p.in_turn p.cause (quiet.store p.after p.left) in
+      record { lines = lines; are = p; plain = plain; sound = sound_says script e.times e.stored p.after lines p.in_turn p.cause (quiet.store p.after p.left) plain; printed = all; decide = is }
   play_plain script shows (cut_off lines p part is) = elim part.cause as (λ _. PrintsPlainly script shows e status) [
     | inl risen ↦ absurd (quiet.sink risen)
     | inr stalled ↦ absurd (quiet.stalls stalled)
@@ -132,7 +134,7 @@ module _ (one_script : OneScript) (never : NeverBoth) (given after : Given) (e :
   of_read bytes script is told spelled (packs name region input other whole course) = absurd (subst IsPlayCommand (one_command words command.Play (command.Pack name region) is other) tt)
   of_read bytes script is told spelled (unpacks name file other same course) = absurd (subst IsPlayCommand (one_command words command.Play (command.Unpack name file) is other) tt)
   of_read bytes script is told spelled (names_all name other same course) = absurd (subst IsPlayCommand (one_command words command.Play (command.Names name) is other) tt)
-  of_read bytes script is told spelled (hungry kept same three) = absurd (fed three)
+  of_read bytes script is told spelled (hungry well kept same three) = absurd (fed three)
 
   of_planned : (asked : Command) (plan : Plan) → IsCommand words asked → IsPlanned asked plan → Course Serves words given after e status → PrintsPlainly plan.script (shows_of plan.shown) e status
   of_planned asked plan is has (usage none same kept said two) = absurd (none asked (built asked (plan_built asked plan has)) is)
@@ -147,7 +149,7 @@ module _ (one_script : OneScript) (never : NeverBoth) (given after : Given) (e :
   of_planned asked plan is has (packs name region input other whole course) = absurd (none_some plan (subst (λ c. IsPlanned c plan) (one_command words asked (command.Pack name region) is other) has))
   of_planned asked plan is has (unpacks name file other same course) = absurd (none_some plan (subst (λ c. IsPlanned c plan) (one_command words asked (command.Unpack name file) is other) has))
   of_planned asked plan is has (names_all name other same course) = absurd (none_some plan (subst (λ c. IsPlanned c plan) (one_command words asked (command.Names name) is other) has))
-  of_planned asked plan is has (hungry kept same three) = absurd (fed three)
+  of_planned asked plan is has (hungry well kept same three) = absurd (fed three)
 
   pub course_plain : (script : Script) (shows : Shows) → AskToPlay words given script shows → Course Serves words given after e status → PrintsPlainly script shows e status
   course_plain script shows (of_input bytes is told spelled shown) course = subst (λ s. PrintsPlainly script s e status) (sym shown) (of_read bytes script is told spelled course)

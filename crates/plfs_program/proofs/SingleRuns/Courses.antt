@@ -103,7 +103,7 @@ went words given after e status quiet fed (packs_unread name region spelled rise
 went words given after e status quiet fed (packs name region bytes spelled input course) = did (command.Pack name region) tt spelled (record { bytes = bytes; input = input; course = course })
 went words given after e status quiet fed (unpacks name file spelled same course) = did (command.Unpack name file) tt spelled course
 went words given after e status quiet fed (names_all name spelled same course) = did (command.Names name) tt spelled course
-went words given after e status quiet fed (hungry kept same three) = absurd (fed three)
+went words given after e status quiet fed (hungry well kept same three) = absurd (fed three)
 
 -- a line that was said is printed
 said_whole : (given after : Given) (e : Ends) (line : List ℕ) → HadNoTrouble given after e → IsSaid line e → IsPrinted line e.taking e.taking_after

@@ -245,7 +245,7 @@ has_called n holder room m call k events out lawful sound only runs =
     }
 
 -- It looked at something, and nothing else.
-pub record HasLooked {X : Type 0} (n holder room : ℕ) (m : Moment) (k : Reply → Program Call Reply X) (events : List Event) (out : X) : Type 0 where
+pub record HasLooked {X : Type 0} (n holder room : ℕ) (m : Moment) (number : ℕ) (look : Sight) (k : Reply → Program Call Reply X) (events : List Event) (out : X) : Type 0 where
   pub first : List Event
   pub rest : List Event
   pub reply : Reply
@@ -254,8 +254,14 @@ pub record HasLooked {X : Type 0} (n holder room : ℕ) (m : Moment) (k : Reply 
   pub sound : IsSoundAt (moment_after m first)
   pub only : HoldsOnly n holder room (moment_after m first).state
   pub runs : Runs n (k reply) rest out
+  -- at this moment, behind these calls
+  pub calls : List Event
+  pub looking : Event
+  pub first_is : first ≡ calls ++ looking ∷ []
+  pub so : IsStep (moment_after m calls).state n (unbroken (Look number look)) reply looking.after
+  pub sound_at : IsSoundAt (moment_after m calls)
 
-pub has_looked : {X : Type 0} (n holder room : ℕ) (m : Moment) (number : ℕ) (look : Sight) (k : Reply → Program Call Reply X) (events : List Event) (out : X) → IsLawful m.state events → IsSoundAt m → HoldsOnly n holder room m.state → Runs n (ask (Look number look) k) events out → HasLooked n holder room m k events out
+pub has_looked : {X : Type 0} (n holder room : ℕ) (m : Moment) (number : ℕ) (look : Sight) (k : Reply → Program Call Reply X) (events : List Event) (out : X) → IsLawful m.state events → IsSoundAt m → HoldsOnly n holder room m.state → Runs n (ask (Look number look) k) events out → HasLooked n holder room m number look k events out
 has_looked n holder room m number look k events out lawful sound only runs =
     let c = has_called n holder room m (Look number look) k events out lawful sound only runs in
     let there : Moment = moment_after m c.before in
@@ -270,6 +276,11 @@ has_looked n holder room m number look k events out lawful sound only runs =
       only = subst (λ (x : Moment). HoldsOnly n holder room x.state) (sym is)
           (only_looked n holder room number look c.event.reply there c.event.after c.sound (its_step n (Look number look) c.event.reply there.state c.event c.own c.asked refl c.lawful.1) c.only);
       runs = c.runs;
+      calls = c.before;
+      looking = c.event;
+      first_is = refl;
+      so = its_step n (Look number look) c.event.reply there.state c.event c.own c.asked refl c.lawful.1;
+      sound_at = c.sound;
     }
 
 -- ---- it lets go
@@ -285,8 +296,8 @@ let_go_so n holder result events out runs =
     let f : IsFirstOf n (Release holder) (λ reply. done (released result reply)) events (Ok out) = first_of n (Release holder) (λ reply. done (released result reply)) events (Ok out) runs in
     released_ok result f.event.reply out f.rest.1
 
-pub went_past : {A R : Type 0} (n holder : ℕ) (next : A → Tries R) (result : Result A Stuck) (events : List Event) (out : R) → Runs n (or_lets_go holder next result) events (Ok out) → (a : A) × Runs n (next a) events (Ok out)
-went_past n holder next (Ok a) events out runs = (a, runs)
+pub went_past : {A R : Type 0} (n holder : ℕ) (next : A → Tries R) (result : Result A Stuck) (events : List Event) (out : R) → Runs n (or_lets_go holder next result) events (Ok out) → (a : A) × Runs n (next a) events (Ok out) × (result ≡ Ok a)
+went_past n holder next (Ok a) events out runs = (a, runs, refl)
 went_past {A} {R} n holder next (Err why) events out runs = (let clash : ◌≡◌ {A = Result R Stuck} (Err why) (Ok out) = let_go_so {R = R} n holder (Err why) events out runs in absurd (cc))
 
 -- ---- the change

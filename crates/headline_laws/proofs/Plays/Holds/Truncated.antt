@@ -13,13 +13,15 @@ use Rattle.store_laws.specs.Changes.{Created}
 use Rattle.store_laws.specs.Files.{file_at}
 use Rattle.store_laws.proofs.Facts.{acts_told, create_told, slice_get-slice_set}
 use Rattle.mount_model.specs.declared.call.Call.TheVariants.{Mark}
+use Rattle.mount_model.specs.declared.call.Look.TheVariants.{List as ListFolder}
 use Rattle.mount_model.specs.declared.reply.Reply.{Reply}
 use Rattle.mount_model.specs.declared.reply.Reply.TheVariants.{Marked, Refused}
 use Rattle.mount_model.specs.declared.row.Holder.{Holder}
 use Rattle.mount_model.specs.History.{Event}
 use Rattle.mount_model.specs.Holding.{TruncatesAt, truncate_check, truncate_outcome, truncate_stamp, truncate_step}
 use Rattle.mount_model.specs.Making.{Refuses, Told}
-use Rattle.mount_model.specs.Paths.{Name, trunc_path}
+use Rattle.mount_model.specs.FlowListed.{told_by}
+use Rattle.mount_model.specs.Paths.{Name, metadata, trunc_path, truncs}
 use Rattle.mount_model.specs.State.{State, Table}
 use Rattle.mount_model.specs.Step.{Answers}
 use Rattle.mount_model.specs.Table.{holder_of}
@@ -27,15 +29,17 @@ use Rattle.mount_model.proofs.Facts.{MayTruncate, is_holding, match_cases, may_t
 use Rattle.mount_sound.specs.Ledger.{Written}
 use Rattle.mount_sound.specs.Owed.{IsLawful}
 use Rattle.mount_model.specs.Running.{Runs, unbroken}
-use Rattle.trunc_rename.specs.Holding.{lets_go}
+use Rattle.trunc_rename.specs.Holding.{lets_go, or_lets_go}
+use Rattle.trunc_rename.specs.Tops.{metadata_top, truncs_top}
 use Rattle.trunc_rename.specs.Truncating.{lists_metadata, lists_truncs, marked, marks, truncate_program}
 use Rattle.reader_laws.specs.Moments.{HadTrunc, IsSoundAt, Moment, file_in_room, file_told, moment_after, next_moment}
-use Rattle.reader_laws.proofs.Gathered.Facts.{in_a_room, in_tree, moment-append, sound_after}
+use Rattle.reader_laws.proofs.Gathered.Facts.{in_a_room, in_tree, legal_first, legal_rest, moment-append, sound_after}
 use Rattle.reader_laws.proofs.Gathered.Moments.Stepping.{IsAboveThen, above_room, trunc_next}
 use Rattle.reader_laws.proofs.Facts.{answered}
-use Rattle.headline_laws.specs.Changing.{IsHolderOf, IsTruncated, TruncatesFile}
+use Rattle.headline_laws.specs.Changing.{IsHolderOf, IsTimed, IsTopIn, IsTruncated, TruncatesFile}
 use Rattle.headline_laws.proofs.Plays.Holds.Held.{HoldsOnly, alone, answered_so, change_of, changed, has_called, has_held, has_looked, its_step, let_go_so, went_past}
 use Rattle.headline_laws.proofs.Plays.Holds.Issued.{issues_above}
+use Rattle.headline_laws.proofs.Plays.Holds.Tops.{metas_told, top_later, truncs_told}
 
 -- ---- what a truncate did
 
@@ -80,7 +84,25 @@ is_marked n holder size top stamp m sound after a = elim (match_cases (holder_of
   ]
 ]
 
-module _ (n holder room size stamp : ℕ) (m : Moment) (sound : IsSoundAt m) (event : Event) (lawful : IsLawful m.state (event ∷ [])) (only : HoldsOnly n holder room m.state) (k : IsMarked n holder size stamp m sound event.after) where
+-- by the clock
+is_timed : (n holder room size top stamp : ℕ) (m : Moment) (after : State) → Answers m.state n (Mark holder size top) (Marked stamp) after → IsTopIn m room top → IsTimed m room stamp
+is_timed n holder room size top stamp m after a stood = elim (match_cases (holder_of n holder m.state.table.holders) _ _ a) as (λ _. IsTimed m room stamp) [
+  | inl (none, refused) ↦ absurd (let e = refused.0 in cc)
+  | inr (h, held, does) ↦ elim (match_cases (truncate_check size top) (TruncatesAt h size top m.state (Marked stamp) after) (λ why. Refuses why m.state (Marked stamp) after) does) as (λ _. IsTimed m room stamp) [
+    | inr (why, some, refused) ↦ absurd (let e : Marked stamp ≡ Refused why = refused.0 in cc)
+    | inl (passed, t) ↦ record {
+      time = t.time;
+      times = t.times;
+      ticks = t.ticks;
+      top = top;
+      stood = stood;
+      is = (told_made (truncate_stamp t.time top) size m.state.table t.makes.told stamp t.makes.answered).1;
+      left = (may_truncate size top passed).stamp_left;
+    }
+  ]
+]
+
+module _ (n holder room size stamp : ℕ) (m : Moment) (sound : IsSoundAt m) (event : Event) (lawful : IsLawful m.state (event ∷ [])) (only : HoldsOnly n holder room m.state) (k : IsMarked n holder size stamp m sound event.after) (timed : IsTimed m room stamp) where
   its_room : k.h.room ≡ room
   its_room = only k.h (is_holding n holder m.state.table.holders k.h k.held)
 
@@ -124,6 +146,7 @@ module _ (n holder room size stamp : ℕ) (m : Moment) (sound : IsSoundAt m) (ev
     below = λ later writer on.
         let more = issues_above (next_moment m event) later room writer stamp size on (sound_after m (event ∷ []) lawful sound) mark_stands in
         (more.0, more.1, All-from_recursion (λ (w : Written). stamp < w.entry.stamp) more.0 more.2);
+    timed = timed;
   }
 
 -- ---- the calls of a truncate
@@ -145,9 +168,10 @@ record HasMarked (n holder room size stamp : ℕ) (m : Moment) (events : List Ev
   pub lawful : IsLawful (moment_after m more).state (event ∷ later)
   pub sound : IsSoundAt (moment_after m more)
   pub only : HoldsOnly n holder room (moment_after m more).state
+  pub stood : IsTopIn (moment_after m more) room top
 
-marks_so : (n holder room size top stamp : ℕ) (m : Moment) (events : List Event) → IsLawful m.state events → IsSoundAt m → HoldsOnly n holder room m.state → Runs n (marks size holder top) events (Ok stamp) → HasMarked n holder room size stamp m events
-marks_so n holder room size top stamp m events lawful sound only runs =
+marks_so : (n holder room size top stamp : ℕ) (m : Moment) (events : List Event) → IsLawful m.state events → IsSoundAt m → HoldsOnly n holder room m.state → IsTopIn m room top → Runs n (marks size holder top) events (Ok stamp) → HasMarked n holder room size stamp m events
+marks_so n holder room size top stamp m events lawful sound only stood runs =
     let c = has_called n holder room m (Mark holder size top) (λ reply. lets_go holder (marked reply)) events (Ok stamp) lawful sound only runs in
     record {
       top = top;
@@ -161,6 +185,7 @@ marks_so n holder room size top stamp m events lawful sound only runs =
       lawful = c.lawful;
       sound = c.sound;
       only = c.only;
+      stood = top_later m c.before room top (legal_first m c.before (c.event ∷ c.later) (subst (IsLawful m.state) c.split lawful)) sound stood;
     }
 
 -- behind a look
@@ -179,19 +204,31 @@ behind_look n holder room size stamp m first rest events is k =
       lawful = subst (λ (x : Moment). IsLawful x.state (k.event ∷ k.later)) (sym there) k.lawful;
       sound = subst IsSoundAt (sym there) k.sound;
       only = subst (λ (x : Moment). HoldsOnly n holder room x.state) (sym there) k.only;
+      stood = subst (λ (x : Moment). IsTopIn x room k.top) (sym there) k.stood;
     }
 
-truncs_so : (n holder room size top stamp : ℕ) (m : Moment) (events : List Event) → IsLawful m.state events → IsSoundAt m → HoldsOnly n holder room m.state → Runs n (lists_truncs size room holder top) events (Ok stamp) → HasMarked n holder room size stamp m events
-truncs_so n holder room size top stamp m events lawful sound only runs =
-    let l = has_looked n holder room m room _ _ events (Ok stamp) lawful sound only runs in
-    let w = went_past n holder (marks size holder) _ l.rest stamp l.runs in
-    behind_look n holder room size stamp m l.first l.rest events l.split (marks_so n holder room size w.0 stamp (moment_after m l.first) l.rest l.lawful l.sound l.only w.1)
+-- what stood as it looked stands behind that
+stood_behind : (n room top : ℕ) (m : Moment) (calls first rest events : List Event) (looking : Event) → first ≡ calls ++ looking ∷ [] → events ≡ first ++ rest → IsLawful m.state events → IsSoundAt (moment_after m calls) → IsTopIn (moment_after m calls) room top → IsTopIn (moment_after m first) room top
+stood_behind n room top m calls first rest events looking is split lawful sound stood =
+    let all : IsLawful m.state (calls ++ (looking ∷ [] ++ rest)) = subst (IsLawful m.state) (split ∙ ap (λ z. z ++ rest) is ∙ append_assoc calls (looking ∷ []) rest) lawful in
+    let on : IsLawful (moment_after m calls).state (looking ∷ []) = legal_first (moment_after m calls) (looking ∷ []) rest (legal_rest m calls (looking ∷ [] ++ rest) all) in
+    subst (λ x. IsTopIn x room top) (sym (ap (moment_after m) is ∙ moment-append m calls (looking ∷ []))) (top_later (moment_after m calls) (looking ∷ []) room top on sound stood)
+
+truncs_so : (n holder room size top stamp : ℕ) (m : Moment) (events : List Event) → IsLawful m.state events → IsSoundAt m → HoldsOnly n holder room m.state → IsTopIn m room top → Runs n (lists_truncs size room holder top) events (Ok stamp) → HasMarked n holder room size stamp m events
+truncs_so n holder room size top stamp m events lawful sound only stood runs =
+    let l = has_looked n holder room m room (ListFolder truncs) (λ reply. or_lets_go holder (marks size holder) (told_by truncs (λ names. truncs_top names top) reply)) events (Ok stamp) lawful sound only runs in
+    let w = went_past n holder (marks size holder) (told_by truncs (λ names. truncs_top names top) l.reply) l.rest stamp l.runs in
+    let all : IsLawful m.state (l.calls ++ (l.looking ∷ [] ++ l.rest)) = subst (IsLawful m.state) (l.split ∙ ap (λ z. z ++ l.rest) l.first_is ∙ append_assoc l.calls (l.looking ∷ []) l.rest) lawful in
+    let then_so : IsTopIn (moment_after m l.calls) room top = top_later m l.calls room top (legal_first m l.calls (l.looking ∷ [] ++ l.rest) all) sound stood in
+    let here : IsTopIn (moment_after m l.calls) room w.0 = truncs_told (moment_after m l.calls) l.sound_at n room l.reply l.looking.after top w.0 l.so w.2 then_so in
+    behind_look n holder room size stamp m l.first l.rest events l.split (marks_so n holder room size w.0 stamp (moment_after m l.first) l.rest l.lawful l.sound l.only (stood_behind n room w.0 m l.calls l.first l.rest events l.looking l.first_is l.split lawful l.sound_at here) w.1)
 
 metadata_so : (n holder room size stamp : ℕ) (m : Moment) (events : List Event) → IsLawful m.state events → IsSoundAt m → HoldsOnly n holder room m.state → Runs n (lists_metadata size room holder) events (Ok stamp) → HasMarked n holder room size stamp m events
 metadata_so n holder room size stamp m events lawful sound only runs =
-    let l = has_looked n holder room m room _ _ events (Ok stamp) lawful sound only runs in
-    let w = went_past n holder (lists_truncs size room holder) _ l.rest stamp l.runs in
-    behind_look n holder room size stamp m l.first l.rest events l.split (truncs_so n holder room size w.0 stamp (moment_after m l.first) l.rest l.lawful l.sound l.only w.1)
+    let l = has_looked n holder room m room (ListFolder metadata) (λ reply. or_lets_go holder (lists_truncs size room holder) (told_by metadata (λ names. metadata_top names 0) reply)) events (Ok stamp) lawful sound only runs in
+    let w = went_past n holder (lists_truncs size room holder) (told_by metadata (λ names. metadata_top names 0) l.reply) l.rest stamp l.runs in
+    let here : IsTopIn (moment_after m l.calls) room w.0 = metas_told (moment_after m l.calls) l.sound_at n room l.reply l.looking.after w.0 l.so w.2 in
+    behind_look n holder room size stamp m l.first l.rest events l.split (truncs_so n holder room size w.0 stamp (moment_after m l.first) l.rest l.lawful l.sound l.only (stood_behind n room w.0 m l.calls l.first l.rest events l.looking l.first_is l.split lawful l.sound_at here) w.1)
 
 -- ---- the truncate
 
@@ -208,5 +245,5 @@ truncated n m name size stamp events lawful sound runs =
       top = k.top;
       change = change_of n m name (lists_metadata size) events (Ok stamp) h k.more k.event k.later;
       made = changed n m name (lists_metadata size) events (Ok stamp) (λ holder. Mark holder size k.top) (Marked stamp) h k.more k.event k.later k.split (answered_so n (Mark h.holder size k.top) (Marked stamp) k.event k.own k.asked k.told) holds;
-      truncated = subst (λ (x : Moment). IsTruncated x (next_moment x k.event) h.room size stamp) (sym (h.is_now k.more)) (mark_truncates n h.holder h.room size stamp there k.sound k.event one k.only i);
+      truncated = subst (λ (x : Moment). IsTruncated x (next_moment x k.event) h.room size stamp) (sym (h.is_now k.more)) (mark_truncates n h.holder h.room size stamp there k.sound k.event one k.only i (is_timed n h.holder h.room size k.top stamp there k.event.after a k.stood));
     }

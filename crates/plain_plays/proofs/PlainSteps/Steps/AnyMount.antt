@@ -67,7 +67,7 @@ first_byte a b e = ap (λ (n : Name). get_or n 0 0) e
 -- ---- a room of the tree
 
 module _ (m : Moment) (s : IsSoundAt m) (n : ℕ) (r : Room) (at : slice_get s.shape.tree.rooms n ≡ Some r) where
-  file_here : (path : Path) → file_then m n path ≡ file_at r path
+  pub file_here : (path : Path) → file_then m n path ≡ file_at r path
   file_here path = by_room m.state.store.tree n path ∙ ap (λ t. file_in_room (room_told t n) path) s.shape.told ∙ ap (λ x. file_in_room x path) at
 
   its_room : IsSoundRoom (m.issued n) m.state.table.writers n r

@@ -5,6 +5,7 @@ use Rattle.program_ends.specs.Ends.{Ends, ends_of}
 use Rattle.put_program.specs.Importing.{sources_of, unmounted}
 use Rattle.put_program.proofs.ImportTroubles.{import_caused, import_undamaged}
 use Rattle.put_program.proofs.Imports.{imported_leaves, imported_so}
+use Rattle.put_program.proofs.Statuses.{says_no_damage}
 use Rattle.put_program.proofs.import_run.import.Goals as goal
 
 pub put_each-status-requires : goal.put_each-status-requires
@@ -25,13 +26,13 @@ returns-in-Ok-clause-sound g c =
 
 pub returns-in-Err-clause-course : goal.returns-in-Err-clause-course
 returns-in-Err-clause-course g c =
-    unmounted c.in-Err.trouble (g.S.Store.stored c.in-Err.store) (ap (option_map g.S.Store.stored) c.ends-in-Err.ensures.store) c.in-Err.ensures.err (rw (sym c.ends-in-Err.ensures.status) at c.say_unmounted-status.ensures)
+    unmounted c.in-Err.trouble (g.S.Store.stored c.in-Err.store) (ap (option_map g.S.Store.stored) c.ends-in-Err.ensures.store) c.in-Err.ensures.err (says_no_damage (g.S.Store.stored c.args.store) (g.S.Store.stored c.in-Err.store) c.in-Err.trouble c.in-Err.ensures.err) (rw (sym c.ends-in-Err.ensures.status) at c.say_unmounted-status.ensures)
 
 pub returns-in-Err-clause-sound : goal.returns-in-Err-clause-sound
 returns-in-Err-clause-sound g c =
     let e : Ends = ends_of (g.C.Clock.times c.args.clock) (g.O.Sink.taking c.args.out.now) (g.O.Sink.taking c.say_unmounted-status.new.out) (g.S.Store.stored c.args.store) (option_map g.S.Store.stored c.ends-in-Err.result.store) in
     imported_leaves c.args.host c.args.over (sources_of g.I.Source.given c.args.files.items) e c.ends-in-Err.result.status c.a_failed_mounting_leaves_a_sound_tree.ensures
-    (unmounted c.in-Err.trouble (g.S.Store.stored c.in-Err.store) (ap (option_map g.S.Store.stored) c.ends-in-Err.ensures.store) c.in-Err.ensures.err (rw (sym c.ends-in-Err.ensures.status) at c.say_unmounted-status.ensures))
+    (unmounted c.in-Err.trouble (g.S.Store.stored c.in-Err.store) (ap (option_map g.S.Store.stored) c.ends-in-Err.ensures.store) c.in-Err.ensures.err (says_no_damage (g.S.Store.stored c.args.store) (g.S.Store.stored c.in-Err.store) c.in-Err.trouble c.in-Err.ensures.err) (rw (sym c.ends-in-Err.ensures.status) at c.say_unmounted-status.ensures))
 
 pub returns-in-Ok-clause-cause : goal.returns-in-Ok-clause-cause
 returns-in-Ok-clause-cause g c =
@@ -44,7 +45,7 @@ pub returns-in-Err-clause-cause : goal.returns-in-Err-clause-cause
 returns-in-Err-clause-cause g c =
     let e : Ends = ends_of (g.C.Clock.times c.args.clock) (g.O.Sink.taking c.args.out.now) (g.O.Sink.taking c.say_unmounted-status.new.out) (g.S.Store.stored c.args.store) (option_map g.S.Store.stored c.ends-in-Err.result.store) in
     import_caused c.args.host c.args.over (sources_of g.I.Source.given c.args.files.items) e c.ends-in-Err.result.status
-    (unmounted c.in-Err.trouble (g.S.Store.stored c.in-Err.store) (ap (option_map g.S.Store.stored) c.ends-in-Err.ensures.store) c.in-Err.ensures.err (rw (sym c.ends-in-Err.ensures.status) at c.say_unmounted-status.ensures))
+    (unmounted c.in-Err.trouble (g.S.Store.stored c.in-Err.store) (ap (option_map g.S.Store.stored) c.ends-in-Err.ensures.store) c.in-Err.ensures.err (says_no_damage (g.S.Store.stored c.args.store) (g.S.Store.stored c.in-Err.store) c.in-Err.trouble c.in-Err.ensures.err) (rw (sym c.ends-in-Err.ensures.status) at c.say_unmounted-status.ensures))
 
 pub returns-in-Ok-clause-undamaged : goal.returns-in-Ok-clause-undamaged
 returns-in-Ok-clause-undamaged g c =
@@ -57,4 +58,4 @@ pub returns-in-Err-clause-undamaged : goal.returns-in-Err-clause-undamaged
 returns-in-Err-clause-undamaged g c =
     let e : Ends = ends_of (g.C.Clock.times c.args.clock) (g.O.Sink.taking c.args.out.now) (g.O.Sink.taking c.say_unmounted-status.new.out) (g.S.Store.stored c.args.store) (option_map g.S.Store.stored c.ends-in-Err.result.store) in
     import_undamaged c.args.host c.args.over (sources_of g.I.Source.given c.args.files.items) e c.ends-in-Err.result.status
-    (unmounted c.in-Err.trouble (g.S.Store.stored c.in-Err.store) (ap (option_map g.S.Store.stored) c.ends-in-Err.ensures.store) c.in-Err.ensures.err (rw (sym c.ends-in-Err.ensures.status) at c.say_unmounted-status.ensures))
+    (unmounted c.in-Err.trouble (g.S.Store.stored c.in-Err.store) (ap (option_map g.S.Store.stored) c.ends-in-Err.ensures.store) c.in-Err.ensures.err (says_no_damage (g.S.Store.stored c.args.store) (g.S.Store.stored c.in-Err.store) c.in-Err.trouble c.in-Err.ensures.err) (rw (sym c.ends-in-Err.ensures.status) at c.say_unmounted-status.ensures))

@@ -1,0 +1,5 @@
+-- By which of the clock's times the stamps are that lines tell.
+pub mod Floors
+pub mod Marks
+pub mod Times
+pub mod Wrote
