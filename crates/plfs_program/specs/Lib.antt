@@ -20,3 +20,4 @@ pub mod Summary
 pub mod Twice
 pub mod UnitTrees
 pub mod Ways
+pub mod Repeated

@@ -16,6 +16,7 @@ ghost use Rattle.program_ends.specs.Outcomes.{IsDone};
 ghost use Rattle.plfs_program.specs.Course.{Course, InputCourse};
 ghost use Rattle.plfs_program.specs.Plainly.{AskToPlay, PrintsPlainly};
 ghost use Rattle.plfs_program.specs.Playing.{PlayCourse};
+ghost use Rattle.plfs_program.specs.Repeated.{IsRepeatable};
 ghost use Rattle.program_ends.specs.Ends.{ends_of, IsSaid};
 ghost use Rattle.program_ends.specs.Output.{IsPrinted, IsCutOff};
 ghost use Rattle.plfs_program.specs.Showing.{Shows, shows_of};
@@ -29,6 +30,7 @@ use crate::faults::fault_line;
 use crate::input::{Input, NoInput};
 use crate::migrating::migrate_mounted;
 use crate::pack_run::pack;
+use crate::program_replay_laws::single_runs_print_the_same;
 use crate::reporting::report;
 use crate::showing::Shown;
 use crate::small_files::{names_mounted, unpack_mounted};
@@ -352,6 +354,8 @@ fn follow<S: Store + Drop, C: Clock + Drop, I: Input, O: Sink>(
 /// are the lines that a plain machine says, which takes each statement in one step, as they are written. It begins with what the store has. Where the store
 /// told a sound tree there is such a machine, unless no mark is left, which line 0 says alone. In the tree that is left each writer that the machine has at the
 /// end has its droppings.
+/// Then each further run of these words that begins on such a store, with such a clock and before the same input, prints the same, with the same status, and
+/// leaves the same store.
 pub fn single<S: Store + Drop, C: Clock + Drop, I: Input, O: Sink>(
     alloc: Global,
     words: &[Word],
@@ -365,8 +369,10 @@ pub fn single<S: Store + Drop, C: Clock + Drop, I: Input, O: Sink>(
     ensures sound { TellsSoundTree (S.stored store) → LeavesSoundTree (option_map S.stored result.store) }
     ensures complete { TellsSoundTree (S.stored store) → AskForUnits words.now (S.stored store) → IsAsked IsBuiltCommand words.now (I.given input.old) (I.given input.new) → HadNoTrouble (I.given input.old) (I.given input.new) (ends_of (C.times clock) (O.taking out.old) (O.taking out.new) (S.stored store) (option_map S.stored result.store)) → IsDone result.status }
     ensures plain { (script : Played) (shows : Shows) → AskToPlay words.now (I.given input.old) script shows → HadNoTrouble (I.given input.old) (I.given input.new) (ends_of (C.times clock) (O.taking out.old) (O.taking out.new) (S.stored store) (option_map S.stored result.store)) → result.status ≢ 3 → PrintsPlainly script shows (ends_of (C.times clock) (O.taking out.old) (O.taking out.new) (S.stored store) (option_map S.stored result.store)) result.status }
+    ensures repeatable { IsRepeatable words.now (I.given input.old) (I.given input.new) (ends_of (C.times clock) (O.taking out.old) (O.taking out.new) (S.stored store) (option_map S.stored result.store)) result.status }
 {
     a_failed_mounting_leaves_a_sound_tree();
     scripts_are_told_apart();
+    single_runs_print_the_same();
     follow(alloc, words, input, out, store, clock)
 }

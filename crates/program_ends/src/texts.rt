@@ -1,5 +1,5 @@
 //! Texts are put together, and printed.
-ghost use Rattle.std.specs.Prelude.{◌≡◌, ◌++◌, OnOk};
+ghost use Rattle.std.specs.Prelude.{◌≡◌, ◌⊎◌, ◌++◌, OnOk};
 ghost use Rattle.std.specs.Fmt.{decimal};
 ghost use Rattle.program_ends.specs.Reported.{IsReported};
 
@@ -18,9 +18,10 @@ pub fn push_number(text: &mut Vec<u8>, word: &[u8], number: u128) -> Result<(), 
     Ok(())
 }
 
-/// Writes this text, and answers this status where all of it was taken.
+/// Writes this text, and answers this status where all of it was taken, and else 6. It wants no memory.
 pub fn say_text<O: Sink>(out: &mut O, text: &[u8], status: u8) -> u8
-    ensures { IsReported text.now status (O.taking out.old) (O.taking out.new) result }
+    ensures reported { IsReported text.now status (O.taking out.old) (O.taking out.new) result }
+    ensures told { (result ≡ status) ⊎ (result ≡ 6) }
 {
     match write_out(out, text) {
         Ok(()) => status,

@@ -24,4 +24,4 @@ pub returns-clause-course : goal.returns-clause-course
 returns-clause-course g c =
     let none : c.in-Ok-say_rooms.broken ≡ false = search rules in
     rooms_sound c.args.names.now c.in-Ok.marks (g.S.Store.stored c.args.store.now) (g.S.Store.stored c.room_number.new.store) (g.S.Store.stored c.say_rooms.new.store) (rw c.marks_name.ensures at c.in-Ok.ensures.ok) c.room_number.ensures.looked
-    (g.O.Sink.taking c.args.out.now) (g.O.Sink.taking c.say_text.new.out) c.in-Ok-say_rooms.broken (g.O.Sink.taking c.say_rooms.new.out) c.say_text.result none c.in-Ok-say_rooms.ensures.ok c.say_text.ensures
+    (g.O.Sink.taking c.args.out.now) (g.O.Sink.taking c.say_text.new.out) c.in-Ok-say_rooms.broken (g.O.Sink.taking c.say_rooms.new.out) c.say_text.result none c.in-Ok-say_rooms.ensures.ok c.say_text.ensures.reported

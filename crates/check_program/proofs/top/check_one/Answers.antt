@@ -15,7 +15,7 @@ pub returns-in-None-clause-course : goal.returns-in-None-clause-course
 returns-in-None-clause-course g c =
     let free : (tree : Tree) → IsSeen (g.S.Store.stored c.args.store.now) tree → TellsRoom tree c.args.name None =
     subst (λ (found : Option ℕ). (tree : Tree) → IsSeen (g.S.Store.stored c.args.store.now) tree → TellsRoom tree c.args.name found) c.in-None.is c.in-Ok.ensures.ok in
-    absent c.args.name refl (λ tree seen listable. free tree seen) c.say_text.ensures
+    absent c.args.name refl (λ tree seen listable. free tree seen) c.say_text.ensures.reported
 
 pub returns-in-Some-clause-course : goal.returns-in-Some-clause-course
 returns-in-Some-clause-course g c =

@@ -25,3 +25,8 @@ pub returns-clause-plain : goal.returns-clause-plain
 returns-clause-plain g c script shows asks quiet fed =
     let e : Ends = ends_of (g.C.Clock.times c.args.clock) (g.O.Sink.taking c.args.out.now) (g.O.Sink.taking c.follow.new.out) (g.S.Store.stored c.args.store) (option_map g.S.Store.stored c.follow.result.store) in
     course_plain c.scripts_are_told_apart.ensures.one_script c.scripts_are_told_apart.ensures.never_both (g.I.Input.given c.args.input.now) (g.I.Input.given c.follow.new.input) e c.follow.result.status quiet fed IsBuiltCommand (λ asked served. served) c.args.words.now script shows asks c.follow.ensures
+
+pub returns-clause-repeatable : goal.returns-clause-repeatable
+returns-clause-repeatable g c input another later f other told told_too alike quiet quiet_too fed fed_too again =
+    let e : Ends = ends_of (g.C.Clock.times c.args.clock) (g.O.Sink.taking c.args.out.now) (g.O.Sink.taking c.follow.new.out) (g.S.Store.stored c.args.store) (option_map g.S.Store.stored c.follow.result.store) in
+    c.single_runs_print_the_same.ensures c.args.words.now input (g.I.Input.given c.args.input.now) (g.I.Input.given c.follow.new.input) another later e f c.follow.result.status other told told_too alike quiet quiet_too fed fed_too c.follow.ensures again
