@@ -284,6 +284,60 @@ def a_mount_of_the_python_client_that_is_dropped_is_closed(trial):
     same("the file", plfs(trial, "cat", "f"), b"kept on")
 
 
+@check
+def a_mount_of_the_python_client_that_failed_closes_nothing_later(trial):
+    plfs_client = client(trial)
+    door = trial.folder / "door"
+    door.mkdir()
+    os.mkfifo(door / "join")
+    calls = [({"root": trial.root, "engine": "/away/plfs_serve"}, "/away/plfs_serve"), ({"at": trial.folder}, str(trial.folder)), ({"at": door}, str(door)),
+             ({"root": "", "engine": engine(trial)}, None)]
+    for how, named in calls:
+        try:
+            plfs_client.Mount(**how)
+            raise Wrong("a mount was made")
+        except plfs_client.Error as error:
+            same("what it names", error.filename, named)
+            kept = error
+        others = [os.open(os.devnull, os.O_RDONLY) for _ in range(8)]
+        del kept
+        gc.collect()
+        for it in others:
+            os.close(it)
+    fs = plfs_client.Mount(trial.root, engine=engine(trial))
+    fs.close()
+    try:
+        fs.list()
+        raise Wrong("a closed mount has files")
+    except plfs_client.Error as error:
+        same("why", error.why, plfs_client.Why.NOT_OPEN)
+
+
+@check
+def a_child_of_fork_is_refused_its_parents_mount_and_takes_none_of_its_answers(trial):
+    plfs_client = client(trial)
+    with plfs_client.Mount(trial.root, engine=engine(trial)) as fs, fs.open("f", "wb") as out:
+        child = os.fork()
+        if not child:
+            try:
+                calls = [lambda: out.write(b"theirs"), out.sync, fs.list, lambda: fs.open("g", "wb")]
+                refused = []
+                for call in calls:
+                    try:
+                        call()
+                    except plfs_client.Error as error:
+                        refused.append(error.why)
+                fs.close()
+                os._exit(refused != [plfs_client.Why.NOT_OPEN] * len(calls))
+            finally:
+                os._exit(2)
+        for k in range(200):
+            out.pwrite(b"own", 3 * k)
+        same("how the child ends", os.waitstatus_to_exitcode(os.waitpid(child, 0)[1]), 0)
+        same("what is synced", out.sync(), 200)
+    same("the file", plfs(trial, "cat", "f"), b"own" * 200)
+
+
 # ---- the client in C
 
 

@@ -95,15 +95,15 @@ def answered(trial, frames, root=None, words=("0",), **how):
     return ended.returncode, answers_in(ended.stdout or b"")
 
 
-def random_request(random):
-    """A request, mostly of few places, so that writes overlap and requests of one file meet."""
+def random_request(random, lengths=(0, 1, 10, 200)):
+    """A request, mostly of few places, so that writes overlap and requests of one file meet. Its bytes are one of these many."""
     kind = random.choices(range(1, 16), [6, 30, 5, 4, 6, 12, 4, 3, 3, 4, 4, 2, 2, 2, 2])[0]
     name, place, extent, payload = random.choice(NAMES), 0, 0, b""
     if kind in (model.OPEN, model.STAT, model.FLATTEN, model.RECOVER):
         payload = name
     elif kind == model.WRITE:
         place = random.randrange(3000) if random.random() < 0.95 else random.choice((2**40 - 50, 2**40, 2**64 - 1, random.randrange(2**41)))
-        payload = random.randbytes(random.choice((0, 1, 10, 200)))
+        payload = random.randbytes(random.choice(lengths))
     elif kind == model.OPEN_READ:
         place, payload = random.randrange(1, 17), name
     elif kind == model.READ:
@@ -155,12 +155,12 @@ def random_frames_are_answered_as_the_model_answers(trial):
         are_answered_as_the_model_answers(trial)
 
 
-def are_answered_as_the_model_answers(trial):
-    asked = [random_request(trial.random) for _ in range(FRAMES)]
+def are_answered_as_the_model_answers(trial, count=FRAMES, **lengths):
+    asked = [random_request(trial.random, **lengths) for _ in range(count)]
     frames = [frame(kind, actor, number, *rest) for number, (kind, actor, *rest) in enumerate(asked)]
     status, answers = answered(trial, b"".join(frames))
     same("the status", status, 0)
-    same("the numbers", [it[0] for it in answers], list(range(FRAMES)))
+    same("the numbers", [it[0] for it in answers], list(range(count)))
     right = model.Model()
     for (kind, *rest), (number, status, value, payload) in zip(asked, answers):
         stamp = value if status == model.MADE and kind in model.STAMPED else 2**62

@@ -163,6 +163,10 @@ def indices_in(room):
     return numbers_in(room, r"hostdir\.\d+", r"index\.(\d+)\.(\d+)")
 
 
+def open_hosts_in(room):
+    return numbers_in(room, "openhosts", r"(\d+)\.(\d+)")
+
+
 def truncates_in(room):
     return sorted(Truncate(*it) for it in numbers_in(room, "truncs", r"(\d+)\.(\d+)"))
 
@@ -580,7 +584,7 @@ class Judge:
 
     def is_open_in(self, t, host, writer):
         run, n = self.run, self.of(t)
-        taken = any(s.kind == "recovered" and run.surely_before(s, t) and writer in dict(s.fields[0]) for s in run.told)
+        taken = any(s.kind == "recovered" and run.surely_before(s, t) and self.of(s) == n and writer in dict(s.fields[0]) for s in run.told)
         return open_host(host, writer) in self.before(n).files and not taken or self.is_alive(t, host, writer)
 
     def may_be_held(self, t):
@@ -662,6 +666,11 @@ class Judge:
             opened = any(self.opens_in(o, n, host, writer) for o in self.run.told)
             need(index(host, writer) in self.before(n).files or opened, f"an index of writer {writer}, whom nobody opened")
 
+    def entries(self, n):
+        for host, writer in open_hosts_in(self.after(n)):
+            opened = any(self.opens_in(o, n, host, writer) for o in self.run.told)
+            need(open_host(host, writer) in self.before(n).files or opened, f"an entry of writer {writer}, whom nobody opened")
+
     # ---- the page
 
     def complaints(self):
@@ -707,6 +716,7 @@ class Judge:
                         field("kept", self.kept, n, w)
             field("truncs", self.truncs, n)
             field("indices", self.indices, n)
+            field("entries", self.entries, n)
         return found
 
 

@@ -78,6 +78,7 @@ WRONG = {
     "no such file to tell of": ("26 stat .*", "26 refused no-file", "refused"),
     "held without cause": ("18 truncated .*", "18 refused held", "refused"),
     "busy by nobody": ("18 truncated .*", "18 refused busy 0 4294967297", "refused"),
+    "busy by one that closed": (r"(?s)(3 open (\d+)\n.*)18 truncated \d+", r"\g<1>18 refused busy 0 \2", "refused"),
     "busy by another": (r"13 refused busy 0 (\d+)", "13 refused busy 1 7", "refused"),
     "no reader": ("24 read .*", "24 refused not-open", "refused"),
     "a sync without a writer": ("5 synced 1", "5 refused not-open", "refused"),
@@ -90,6 +91,7 @@ WRONG = {
     "a write's stamp that no clock gives": (r"4 wrote 0 4 \d+", f"4 wrote 0 4 {2**62 + 1}", "stamped"),
     "a truncate's stamp that no clock gives": (r"18 truncated \d+", f"18 truncated {2**62 + 1}", "truncated"),
     "no stamp left": ("4 wrote .*", "4 refused stamps-spent", "refused"),
+    "no stamp left for a truncate": ("18 truncated .*", "18 refused stamps-spent", "refused"),
     "too far within the limit": ("8 wrote .*", "8 refused too-far", "refused"),
     "a stop that none armed": ("24 read .*", "24 stopped", "stopped"),
     "gone without a stop": ("31 refused no-file", "31 gone", "gone"),
@@ -200,6 +202,21 @@ def the_judge_refuses_planted_lines(trial):
 
 
 @check
+def the_judge_knows_where_no_stamp_is_left(trial):
+    """After a truncate of the last stamp of all. Where it has another stamp the judge refuses the same lines."""
+    accepted(trial, "actor a\na open f\na write 0 text:ab\na close\na trunc f 2\n", "play", trial.root)
+    (truncate,) = (trial.root / "f/truncs").iterdir()
+    truncate.rename(truncate.with_name(f"{judge.GREATEST_STAMP}.2"))
+    text = "actor a\na trunc f 1\na open f\na write 0 text:c\na close\n"
+    lines, before, after = accepted(trial, text, "play", trial.root)
+    same("lines with this refusal", re.findall(r"(\d+) refused stamps-spent", lines), ["2", "4"])
+    other = {f"{judge.GREATEST_STAMP}.2": "7.2"}
+    trees = [[room._replace(files={(*at[:-1], other.get(at[-1], at[-1])): data for at, data in room.files.items()}) for room in tree] for tree in (before, after)]
+    found = judge.judged(text, lines, *trees, "play")
+    true(f"the judge finds {found} with a stamp left", sum(bool(re.match(r"refused, line (2|4): a stamp is left", one)) for one in found) == 2)
+
+
+@check
 def the_judge_refuses_a_tree_that_lost_something(trial):
     lines, before, after = accepted(trial, PLANTED, "play", trial.root)
     for what, path in {"left": r"hostdir\.0/index\..*", "closed": r"metadata/.*\.0\.\d+", "truncated": r"truncs/.*", "flattened": r"flats/.*"}.items():
@@ -231,6 +248,14 @@ def the_judge_refuses_a_closed_writer_that_is_open(trial):
     other = [room._replace(files={**room.files, ("openhosts", f"0.{writer}"): b""}) if room.name != judge.MARKS else room for room in after]
     found = judge.judged(PLANTED, lines, before, other, "play")
     true(f"the judge finds {found} where a closed writer has its entry still", any(re.match(r"closed\b", one) for one in found))
+
+
+@check
+def the_judge_refuses_an_entry_of_a_writer_that_nobody_opened(trial):
+    lines, before, after = accepted(trial, PLANTED, "play", trial.root)
+    other = [room._replace(files={**room.files, ("openhosts", "0.77"): b""}) if room.name != judge.MARKS else room for room in after]
+    found = judge.judged(PLANTED, lines, before, other, "play")
+    true(f"the judge finds {found} where somebody unknown has an entry", any(re.match(r"entries\b", one) for one in found))
 
 
 @check

@@ -75,6 +75,23 @@ def an_input_that_is_open_for_writing_alone_is_status_5(trial):
 
 
 @check
+def a_read_of_the_input_that_fails_once_is_status_5_and_is_not_made_again(trial):
+    ended, calls = trial.watched(WORK, f"fail EIO read 1 {trial.folder}/script*")
+    same("the end", (ended.status, ended.out), (5, ""))
+    same("what reads of the input end with", [it.end for it in calls if it.kind == "read" and "/script" in it.path], ["EIO"])
+    trial.is_untouched()
+
+
+@check
+def a_write_of_the_lines_that_fails_once_is_status_6_and_is_not_made_again(trial):
+    with open(trial.folder / "lines", "wb") as lines:
+        ended, calls = trial.watched(WORK, f"fail EIO write 1 {lines.name}", stdout=lines)
+    same("the status", ended.status, 6)
+    same("what writes of the lines end with", [it.end for it in calls if it.kind == "write" and it.path == lines.name], ["EIO"])
+    trial.holds()
+
+
+@check
 def an_empty_input_is_an_empty_script(trial):
     trial.ends(0, "", lines="")
 

@@ -108,6 +108,26 @@ def the_root_script_hands_its_words_on_and_says_nothing(trial):
 
 
 @check
+def the_root_script_says_which_word_is_no_name_of_a_file(trial):
+    copy = Copy(trial)
+    copy.build(1)
+    for name in ("plfs_copy", "plfs_check", "plfs_serve"):
+        (copy.top / name).symlink_to("plfs")
+    why = "no name of a file, which has 1 to 64 of A-Za-z0-9_-. and neither . nor - first"
+    wrong = [("plfs", ("stat", "a/b"), "a/b"), ("plfs", ("cat", ".x"), ".x"), ("plfs", ("trunc", "-f", "3"), "-f"), ("plfs", ("rename", "f", "g h"), "g\\ h"),
+             ("plfs", ("unpack", "f", "\n"), "$'\\n'"), ("plfs", ("drain", "é", "x"), None), ("plfs", ("names", 65 * "n"), 65 * "n"), ("plfs_copy", ("put", ""), "''"),
+             ("plfs_copy", ("get", "a b"), "a\\ b"), ("plfs_check", ("a:b",), "a:b")]
+    for name, words, shown in wrong:
+        ended = copy.run("root", *words, script=copy.top / name)
+        true(f"{words} say {ended.stderr!r}", ended.stderr == f"plfs: {shown}: {why}\n" or shown is None and ended.stderr.endswith(f": {why}\n"))
+        same(f"what {words} print", (ended.returncode, ended.stdout), (0, "program <root>" + "".join(f" <{it}>" for it in words) + "\n"))
+    good = [("plfs", ("stat", 64 * "n")), ("plfs", ("rename", "_f", "9.-")), ("plfs", ("gen", "a/b")), ("plfs", ("stat",)), ("plfs", ("ls", "a/b")), ("plfs_copy", ("import", "a/b")),
+            ("plfs_copy", ("put", "f", "--from", "a/b")), ("plfs_check", ()), ("plfs_serve", ("a/b",))]
+    for name, words in good:
+        is_quiet(copy.run("root", *words, script=copy.top / name), "program <root>" + "".join(f" <{it}>" for it in words) + "\n")
+
+
+@check
 def the_root_script_is_found_through_links(trial):
     copy = Copy(trial)
     copy.build(1)

@@ -5,12 +5,14 @@ import os
 import subprocess
 
 from copies_in import USAGE, gets, puts, run
+from engines_at import script
 from imports import folder_of, lines_of
 from trial import SECONDS, check, listed, same, true
 
 CONTAINER = "it is a container; give the folder that holds it"
 IN_CONTAINER = "it lies in a container; give the folder that holds that one"
 MARKS = "it has the marks of a ROOT; give the folder that holds it"
+IN_MARKS = "it lies in the marks of a ROOT; give the folder that holds them"
 USED_ALONE = "it has marks of its own, so it or a folder before it was used alone"
 # Folders that are no ROOT, below ROOT, and why.
 WRONG = (("f", CONTAINER), ("f/hostdir.0", IN_CONTAINER), ("f/metadata", IN_CONTAINER), ("f/.", CONTAINER), (".plfs", MARKS), (".plfs/", MARKS))
@@ -56,6 +58,57 @@ def a_container_that_is_named_as_the_target_of_a_drain_or_an_export_or_as_an_eng
         same(f"an export to {place}", called(trial, "plfs_copy", trial.root, "export", f"{trial.root}/{place}"), (6, "", err))
         same(f"an engine at {place}", called(trial, "plfs_serve", trial.root, "--at", f"{trial.root}/{place}"), (status, out, err))
     same("ROOT", listed(trial.root), before)
+    gets(trial, b"hello")
+
+
+@check
+def the_root_script_makes_no_pipe_in_a_folder_by_which_no_engine_serves(trial):
+    puts(trial, b"hello", "f")
+    serve, door = script(trial), trial.folder / "door"
+    door.mkdir()
+    for name in ("g", ".hidden"):
+        (trial.root / name).mkdir()
+    away, within = trial.folder / "away", "it lies in ROOT, where each folder is a file; give a folder beside ROOT"
+    wrong = [
+        *((trial.root, trial.root / place, why) for place, why in WRONG if not place.endswith("/.")),
+        (trial.root, trial.root / ".plfs" / "mounts", IN_MARKS),
+        (trial.root, trial.root, "it is a folder of ROOT; give a folder beside it"),
+        (f"{door}:{trial.root}", trial.root, "it is a folder of ROOT; give a folder beside it"),
+        (trial.root, trial.root / "g", within),
+    ]
+    before = listed(trial.root)
+
+    def serves(*words):
+        ended = subprocess.run([serve, *map(str, words)], stdin=subprocess.DEVNULL, stdout=subprocess.PIPE, stderr=subprocess.PIPE, timeout=SECONDS)
+        same(f"what is left by {words}", (listed(trial.root), os.listdir(door)), (before, []))
+        return ended.returncode, ended.stderr.decode()
+
+    for root, place, why in wrong:
+        same(f"an engine at {place}", serves(root, "--at", place), (4, f"plfs: {place}: {why}\n"))
+    for root in (away, f"{trial.root}:{away}"):
+        same(f"an engine on {root}", serves(root, "--at", door), (4, f"plfs: {away}: list: No such file or directory (os error 2)\n"))
+    same("an engine at no folder", serves(trial.root, "--at", away), (4, f"plfs: {away}: list: No such file or directory (os error 2)\n"))
+    for words in ((trial.root, "--at", door, "x"), (trial.root, "--at", door, 1, 2), (trial.root, "--at", door, ""), ("", "--at", door), (trial.root, "--at")):
+        same(f"the status of {words}", serves(*words), (2, ""))
+    gets(trial, b"hello")
+
+
+@check
+def the_root_script_refuses_what_lies_in_the_marks_of_a_root(trial):
+    puts(trial, b"hello", "f")
+    serve, marks = script(trial), trial.root / ".plfs" / "mounts"
+    for name in ("plfs_copy", "plfs_check"):
+        (serve.parent / name).symlink_to("plfs")
+    (trial.folder / "other").mkdir()
+    before = listed(trial.root)
+    calls = [("plfs", marks, "ls"), ("plfs", f"{trial.folder}/other:{marks}", "ls"), ("plfs_copy", marks, "get", "f"), ("plfs_check", marks), ("plfs_serve", marks),
+             ("plfs", trial.root, "drain", "f", marks), ("plfs_copy", trial.root, "export", marks)]
+    for name, *words in calls:
+        ended = subprocess.run([serve.parent / name, *words], stdin=subprocess.DEVNULL, stdout=subprocess.PIPE, stderr=subprocess.PIPE, timeout=SECONDS)
+        same(f"the end of {name} {words}", (ended.returncode, ended.stdout, ended.stderr.decode()), (4, b"", f"plfs: {marks}: {IN_MARKS}\n"))
+    ended = subprocess.run([serve.parent / "plfs", ".", "ls"], cwd=marks, stdout=subprocess.PIPE, stderr=subprocess.PIPE, timeout=SECONDS)
+    same("the end within", (ended.returncode, ended.stderr.decode()), (4, f"plfs: .: {IN_MARKS}\n"))
+    same("what is there", listed(trial.root), before)
     gets(trial, b"hello")
 
 

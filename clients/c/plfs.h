@@ -8,8 +8,8 @@
  * one that all see, and a thread sends its own while others wait for their answers. A handle or a mount that is being closed must
  * not be used by another thread. Threads that write one file at once each open a writer of their own.
  *
- * Processes: a child of fork must not use its parent's mounts. It has their pipes until it ends or starts another program, and
- * plfs_unmount of the parent waits that long. A program that waits for all of its children, or ignores SIGCHLD, takes the engine's
+ * Processes: a child of fork can't use its parent's mounts, and is answered PLFS_NOT_OPEN. It has their pipes until it ends, starts another
+ * program or calls plfs_unmount, and plfs_unmount of the parent waits that long. A program that waits for all of its children, or ignores SIGCHLD, takes the engine's
  * end from plfs_unmount, which then answers PLFS_GONE.
  *
  * Answers: 0 or more where the call did what it says, else one of enum plfs_error, negated. Sizes, places and lengths are in
@@ -40,10 +40,10 @@ enum plfs_error {
     PLFS_BAD_NUMBER = 12,     /* a number is out of its range                                                  */
     PLFS_NO_HANDLE = 13,      /* PLFS_HANDLES handles are open                                                 */
     PLFS_NO_MEMORY = 14,      /* this program was refused memory                                               */
-    PLFS_NOT_STARTED = 15,    /* the engine couldn't be started: errno says why                                */
+    PLFS_NOT_STARTED = 15,    /* there is no engine: it couldn't be started, or none serves there. errno says why */
     PLFS_NO_ROOT = 16,        /* ROOT is no list of 1 to 8 folders                                             */
     PLFS_DAMAGED = 17,        /* an item of the container is damaged: plfs_damage tells which                  */
-    PLFS_FAULT = 18,          /* the store failed, or another program has the folder: the engine says more on standard error */
+    PLFS_FAULT = 18,          /* the store failed, or another program has the folder: at a mount the engine says which on standard error */
     PLFS_ENGINE_MEMORY = 19,  /* the engine was refused memory, and ended. The call may have been made in part */
     PLFS_GONE = 20,           /* the engine ended, or was killed. The call may have been made, or in part      */
     PLFS_STRANGE = 21         /* what came is no answer, and the mount is given up                             */
@@ -66,8 +66,9 @@ const char *plfs_strerror(int error);
 int plfs_mount(const char *root, uint32_t host, plfs_fs **fs);
 
 /* Joins the engine that serves the processes of this machine by this folder: plfs_serve ROOT --at FOLDER. plfs_mount does so where PLFS_AT of
- * the environment names a folder, whatever root and host say. PLFS_NOT_STARTED where no engine serves there, PLFS_NO_HANDLE where it serves
- * as many processes as it may, PLFS_GONE, PLFS_NO_ROOT, PLFS_NO_MEMORY. */
+ * the environment names a folder, whatever root and host say. It waits for an engine that begins meanwhile, up to 5 seconds, or as many as PLFS_WAIT
+ * of the environment says. PLFS_NOT_STARTED where none serves there, PLFS_NO_HANDLE where it serves as many processes as it may, PLFS_GONE where
+ * it died or took nobody up, PLFS_NO_ROOT, PLFS_NO_MEMORY. */
 int plfs_mount_at(const char *folder, plfs_fs **fs);
 
 /* Syncs and closes what is open, ends the engine and waits for its end. All handles of the mount are gone and their memory is free,

@@ -27,7 +27,7 @@ const char *plfs_strerror(int error) {
     static const char *const words[] = {
         "done", "no such file", "the file is held", "a writer has the file open", "the name is taken", "past the greatest size",
         "no stamp is left", "no id is left", "it isn't open", "it is open already", "no mount is left", "no name of a file",
-        "a number is out of range", "too many handles are open", "memory was refused", "the engine couldn't be started",
+        "a number is out of range", "too many handles are open", "memory was refused", "there is no engine",
         "no list of folders", "an item is damaged", "the store failed, or is in use", "the engine was refused memory",
         "the engine is gone", "the engine's answer is none"};
     if (error > 0) error = -error;

@@ -14,6 +14,7 @@
 #include <stdio.h>
 #include <stdlib.h>
 #include <string.h>
+#include <sys/ioctl.h>
 #include <sys/stat.h>
 #include <sys/uio.h>
 #include <sys/wait.h>
@@ -25,8 +26,10 @@ extern char **environ;
 /* How an answer says that it went. */
 enum status { MADE = 0, REFUSED = 1, NO_REQUEST = 2, NO_MEMORY = 3, FAULT = 4, DAMAGED = 7 };
 
-/* LENT: from so many bytes on a request's bytes aren't copied into the pipe. */
-enum { HEAD = 48, ANSWER = 32, PIPE = 1 << 20, LENT = 1 << 15 };
+/* LENT: from so many bytes on a request's bytes aren't copied into the pipe. TAKEN_UP: milliseconds, long behind the reading of a name that announces a
+ * process, in which an engine opens that process's pipes. DYING: milliseconds in which an engine that is killed closes all of its own.
+ * WAIT: seconds in which an engine may begin, where PLFS_WAIT says nothing else. STEP: milliseconds between two looks whether it did. */
+enum { HEAD = 48, ANSWER = 32, PIPE = 1 << 20, LENT = 1 << 15, TAKEN_UP = 1000, DYING = 100, WAIT = 5, STEP = 20 };
 
 /* ---- bytes on pipes */
 
@@ -198,15 +201,29 @@ static int take_payload(struct plfs_engine *engine, const struct plfs_asked *a, 
     return take_all(engine, a->into, (size_t)len) ? PLFS_GONE : 0;
 }
 
+/* Whether this process's name was read off the pipe on which it announced itself. */
+static int is_name_read(const struct plfs_engine *engine) {
+    int unread = 0;
+    return ioctl(engine->door, FIONREAD, &unread) == 0 && unread == 0;
+}
+
 /* Waits for the first answer of an engine that was joined. Before that engine opens the pipe nothing comes, and no end either. Its end alone says
- * that there is no place for this process. */
-static int wait_in(const struct plfs_engine *engine) {
-    struct pollfd ends[2] = {{.fd = engine->from, .events = POLLIN}, {.fd = engine->door}};
-    while (poll(ends, 2, -1) < 0) {
-        if (errno != EINTR) return PLFS_GONE;
+ * that there is no place for this process. An engine that died as it had read the name, or that may not open the pipes, never does. So some time behind
+ * that reading somebody must have opened the pipe of requests. */
+static int wait_in(struct plfs_engine *engine) {
+    struct pollfd ends[3] = {{.fd = engine->from, .events = POLLIN}, {.fd = engine->door}, {.fd = -1}};
+    int came;
+    while ((came = poll(ends, 3, engine->own >= 0 ? TAKEN_UP : -1)) <= 0) {
+        if (came < 0 && errno != EINTR) return PLFS_GONE;
+        if (came == 0 && is_name_read(engine)) {
+            close(engine->own);
+            engine->own = -1;
+            ends[2].fd = engine->to; /* which tells an error where nobody reads it */
+        }
     }
     if (ends[0].revents & POLLIN) return 0;
-    return ends[1].revents ? PLFS_GONE : PLFS_NO_HANDLE;
+    if (ends[0].revents && !ends[1].revents) (void)poll(ends + 1, 1, DYING);
+    return ends[1].revents || !ends[0].revents ? PLFS_GONE : PLFS_NO_HANDLE;
 }
 
 /* Takes the answer to this request, which is the oldest. Answers its error. */
@@ -304,6 +321,7 @@ static int send_request(struct plfs_engine *engine, struct plfs_waiting *own, in
 int plfs_engine_ask(struct plfs_engine *engine, const struct plfs_asked *asked) {
     struct plfs_waiting own = {.asked = asked};
     int hears = 0;
+    if (getpid() != engine->owner) return PLFS_NOT_OPEN;
     sem_init(&own.woken, 0, 0);
     pthread_mutex_lock(&engine->sending);
     int error = send_request(engine, &own, &hears);
@@ -393,7 +411,7 @@ int plfs_engine_start(struct plfs_engine *engine, const char *root, uint32_t hos
     snprintf(number, sizeof number, "%lu", (unsigned long)host);
     char *words[] = {(char *)(uintptr_t)"plfs_serve", (char *)(uintptr_t)root, number, NULL};
     int to[2], from[2];
-    *engine = (struct plfs_engine){.to = -1, .door = -1};
+    *engine = (struct plfs_engine){.to = -1, .door = -1, .own = -1, .owner = getpid()};
     if (pipe_above(to)) return PLFS_NOT_STARTED;
     if (pipe_above(from)) {
         close(to[0]);
@@ -428,8 +446,22 @@ static int open_pipe(const char *path, int how) {
     }
     if (end < 0 || (fstat(end, &is) == 0 && S_ISFIFO(is.st_mode))) return end;
     close(end);
-    errno = ENXIO;
+    errno = EINVAL;
     return -1;
+}
+
+/* Opens the pipe of the folder on which processes announce themselves, which fails where no engine reads it. It waits for one to begin. */
+static int open_door(const char *folder, const char *join) {
+    const char *said = getenv("PLFS_WAIT");
+    long seconds = WAIT;
+    if (said && *said && strspn(said, "0123456789") == strlen(said)) seconds = strtol(said, NULL, 10);
+    long left = seconds < LONG_MAX / 1000 ? seconds * 1000 / STEP : LONG_MAX;
+    for (;;) {
+        int door = open_pipe(join, O_WRONLY | O_NONBLOCK);
+        if (door >= 0 || left-- <= 0) return door;
+        if (errno != ENXIO && (errno != ENOENT || access(folder, F_OK))) return -1;
+        (void)poll(NULL, 0, STEP);
+    }
 }
 
 /* Makes two named pipes of a name that is this process's own, and writes their paths and that name. */
@@ -453,11 +485,11 @@ static int make_pair(const char *folder, char in[PATH_MAX], char out[PATH_MAX], 
 
 /* Opens the pipes, announces this process, and is let in. While it reads its own requests' pipe no opening waits. */
 static int enter(struct plfs_engine *engine, const char *in, const char *out, const char *name) {
-    const int own = open_pipe(in, O_RDONLY | O_NONBLOCK);
+    engine->own = open_pipe(in, O_RDONLY | O_NONBLOCK);
     engine->to = open_pipe(in, O_WRONLY);
     engine->from = open_pipe(out, O_RDONLY | O_NONBLOCK);
     int error = PLFS_NOT_STARTED;
-    if (own >= 0 && engine->to >= 0 && engine->from >= 0 && fcntl(engine->from, F_SETFL, 0) == 0) {
+    if (engine->own >= 0 && engine->to >= 0 && engine->from >= 0 && fcntl(engine->from, F_SETFL, 0) == 0) {
         (void)fcntl(engine->to, F_SETPIPE_SZ, PIPE); /* quicker, where the system allows it */
         (void)fcntl(engine->from, F_SETPIPE_SZ, PIPE);
         if (send_all(engine->door, NULL, name, strlen(name)) == 0) {
@@ -465,15 +497,16 @@ static int enter(struct plfs_engine *engine, const char *in, const char *out, co
             if (error == PLFS_NOT_OPEN) error = 0;
         }
     }
-    if (own >= 0) close(own);
+    if (engine->own >= 0) close(engine->own);
+    engine->own = -1;
     return error;
 }
 
 int plfs_engine_join(struct plfs_engine *engine, const char *folder) {
     char join[PATH_MAX], in[PATH_MAX], out[PATH_MAX], name[64];
-    *engine = (struct plfs_engine){.to = -1, .from = -1, .door = -1};
+    *engine = (struct plfs_engine){.to = -1, .from = -1, .door = -1, .own = -1, .owner = getpid()};
     if (snprintf(join, PATH_MAX, "%s/join", folder) >= PATH_MAX) return PLFS_NO_ROOT;
-    engine->door = open_pipe(join, O_WRONLY | O_NONBLOCK); /* which fails where no engine reads it */
+    engine->door = open_door(folder, join);
     if (engine->door < 0) return PLFS_NOT_STARTED;
     int error = PLFS_NOT_STARTED;
     if (make_locks(engine) == 0) {
@@ -509,6 +542,11 @@ static int leave(struct plfs_engine *engine) {
 int plfs_engine_end(struct plfs_engine *engine) {
     int status = 0;
     pid_t ended;
+    if (getpid() != engine->owner) {
+        close(engine->to);
+        close(engine->from);
+        return PLFS_NOT_OPEN;
+    }
     if (engine->process == 0) return leave(engine);
     close(engine->to);
     close(engine->from); /* so no answer that nobody takes keeps it from its end */

@@ -33,10 +33,12 @@ struct plfs_engine {
 
     int from; /* what follows is for the thread that takes answers */
     int door; /* while this process is not let in: the pipe on which it announced itself, else -1 */
+    int own;  /* meanwhile its own reading end of its requests, without which their opening would wait, else -1 */
     size_t begin, end; /* where in ahead those bytes are that were read and not taken */
     unsigned char ahead[PLFS_AHEAD];
 
     pid_t process; /* 0 where the engine was joined */
+    pid_t owner;   /* the process whose requests these are: none of its children has an answer of its own */
 };
 
 /* One request. Where an answer has bytes, they go to into, which has room for so many, or to memory that *made takes, with a zero
@@ -58,11 +60,11 @@ int plfs_engine_start(struct plfs_engine *engine, const char *root, uint32_t hos
 /* Joins the engine that serves by this folder. 0, or an error of enum plfs_error, not negated. */
 int plfs_engine_join(struct plfs_engine *engine, const char *folder);
 
-/* Makes the request. 0, or an error of enum plfs_error, not negated. */
+/* Makes the request. 0, or an error of enum plfs_error, not negated: PLFS_NOT_OPEN in a child of fork. */
 int plfs_engine_ask(struct plfs_engine *engine, const struct plfs_asked *asked);
 
 /* Ends the engine's input, and waits for its end: 0, or the error that its status tells. Of one that was joined it waits until that has closed
- * what is open, and answers 0. */
+ * what is open, and answers 0. In a child of fork it closes that one's ends of the pipes, and answers PLFS_NOT_OPEN. */
 int plfs_engine_end(struct plfs_engine *engine);
 
 #endif

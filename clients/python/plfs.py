@@ -24,7 +24,9 @@ import select
 import stat
 import struct
 import subprocess
+import termios
 import threading
+import time
 
 __all__ = ["Error", "Mount", "Reader", "Why", "Writer", "open"]
 
@@ -32,6 +34,9 @@ OPEN, WRITE, SYNC, CLOSE, OPEN_READ, READ, REFRESH, PIECES, CLOSE_READ, STAT, TR
 # Actors are 0 to HANDLES, and the first makes the statements that need no handle. Bytes of one request: longer ones are several.
 HANDLES, NAMES, LONGEST, PIPE = 255, 0, 1 << 24, 1 << 20
 HANDLES_AT = 15  # where an engine was joined
+WAIT = 5  # seconds in which an engine that is joined may begin, where nothing else is said
+TAKEN_UP = 1000  # milliseconds, long behind the reading of a name that announces a process, in which an engine opens that process's pipes
+DYING = 100  # milliseconds, in which an engine that is killed closes all its pipes
 COUNT = itertools.count()
 HEAD, ANSWER = struct.Struct("<6Q"), struct.Struct("<4Q")
 MADE, REFUSED, NO_REQUEST, NO_MEMORY, FAULT, DAMAGED = 0, 1, 2, 3, 4, 7
@@ -46,7 +51,7 @@ class Why:
 
 WORDS = ("done", "no such file", "the file is held", "a writer has the file open", "the name is taken", "past the greatest size", "no stamp is left",
          "no id is left", "it isn't open", "it is open already", "no mount is left", "no name of a file", "a number is out of range",
-         "too many handles are open", "memory was refused", "the engine couldn't be started", "no list of folders", "an item is damaged",
+         "too many handles are open", "memory was refused", "there is no engine", "no list of folders", "an item is damaged",
          "the store failed, or is in use", "the engine was refused memory", "the engine is gone", "the engine's answer is none")
 ENDS = {1: Why.MOUNTS_SPENT, 2: Why.NO_ROOT, 3: Why.ENGINE_MEMORY, 4: Why.FAULT, 7: Why.DAMAGED}
 
@@ -58,7 +63,7 @@ NUMBERS = (0, errno.ENOENT, errno.EBUSY, errno.EBUSY, errno.EEXIST, errno.EFBIG,
 class Error(OSError):
     """A call that did not do what it says. `why` is one of Why, and `errno` the number of the system that fits it. `filename` is the name of the
     file, and `filename2` that which a rename would give. Where there is no such file it is a FileNotFoundError too, and where the name is taken a
-    FileExistsError. At damage `item` is the path of the item in its container, and `place` is that of the damage in it."""
+    FileExistsError. Where there is no engine it is that of its program or folder. At damage `item` is the path of the item in its container, and `place` is that of the damage in it."""
 
     def __new__(cls, why, item=None, place=None, name=None, to=None):
         kind = {Why.NO_FILE: NoFile, Why.EXISTS: Exists}.get(why, Error)
@@ -106,9 +111,14 @@ def _pipe():
         if low <= 2:
             ends[k] = fcntl.fcntl(low, fcntl.F_DUPFD_CLOEXEC, 3)
             os.close(low)
-    with contextlib.suppress(OSError):
-        fcntl.fcntl(ends[1], 1031, PIPE)  # F_SETPIPE_SZ: quicker, where the system allows it
+    _widen(ends[1])
     return ends
+
+
+def _widen(end):
+    """Gives a pipe more room, which is quicker, where the system allows it."""
+    with contextlib.suppress(OSError):
+        fcntl.fcntl(end, 1031, PIPE)  # F_SETPIPE_SZ
 
 
 def _named_pipe(path, how):
@@ -120,7 +130,28 @@ def _named_pipe(path, how):
     if stat.S_ISFIFO(os.fstat(end).st_mode):
         return end
     os.close(end)
-    raise OSError(errno.ENXIO, "no named pipe", path)
+    raise OSError(errno.EINVAL, "no named pipe", path)
+
+
+def _door(folder):
+    """Opens the pipe of the folder on which processes announce themselves, which fails where no engine reads it. It waits for one to begin: as many
+    seconds as $PLFS_WAIT says."""
+    seconds = os.environ.get("PLFS_WAIT", "")
+    last = time.monotonic() + (int(seconds) if seconds.isdecimal() else WAIT)
+    while True:
+        try:
+            return _named_pipe(f"{folder}/join", os.O_WRONLY | os.O_NONBLOCK)
+        except OSError as error:
+            may_begin = error.errno == errno.ENXIO or error.errno == errno.ENOENT and os.path.isdir(folder)
+            if not may_begin or time.monotonic() >= last:
+                raise
+        time.sleep(0.02)
+
+
+def _remove(path):
+    """Removes what stands there, if it does."""
+    with contextlib.suppress(OSError):
+        os.unlink(path)
 
 
 def _pair(folder):
@@ -145,7 +176,7 @@ class Mount:
     """A folder, or 1 to 8 of them with colons between, whose files are opened here. It is a context: its end unmounts. One that nothing names any
     more is closed too."""
 
-    _to = None
+    _to = _from = None
 
     def __init__(self, root=None, host=0, engine=None, at=None):
         """Joins the engine that serves by the folder `at`, or else by that of $PLFS_AT, whatever `root` and `host` say. Without one it starts an
@@ -154,7 +185,11 @@ class Mount:
         self._lock, self._number, self._gone, self._process = threading.Lock(), 0, None, os.getpid()
         self._free, self.engine = list(range(HANDLES_AT if at else HANDLES, 0, -1)), None
         if at:
-            self._join(os.fspath(at))
+            try:
+                self._join(os.fspath(at))
+            except BaseException:
+                self._drop()
+                raise
         else:
             self._start(root, host, engine or os.environ.get("PLFS_SERVE") or "plfs_serve")
 
@@ -163,12 +198,12 @@ class Mount:
         try:
             ends += _pipe()
             ends += _pipe()
-            to, self._to, self._from, out = ends
-            self.engine = subprocess.Popen(words, executable=program, stdin=to, stdout=out, start_new_session=True)
+            self.engine = subprocess.Popen(words, executable=program, stdin=ends[0], stdout=ends[3], start_new_session=True)
         except BaseException as error:
             for end in ends:
                 os.close(end)
-            raise Error(Why.NOT_STARTED) if isinstance(error, OSError) else error
+            raise Error(Why.NOT_STARTED, None, None, program) if isinstance(error, OSError) else error
+        to, self._to, self._from, out = ends
         os.close(to)
         os.close(out)
         self._greet()
@@ -190,28 +225,44 @@ class Mount:
         waits. Before the engine opens the pipe of answers nothing comes of it, and no end either."""
         with contextlib.ExitStack() as ends:
             try:
-                door = _named_pipe(f"{folder}/join", os.O_WRONLY | os.O_NONBLOCK)  # which fails where no engine reads it
+                door = _door(folder)
                 ends.callback(os.close, door)
                 name, paths = _pair(folder)
                 for path in paths:
-                    ends.callback(os.unlink, path)
-                ends.callback(os.close, _named_pipe(paths[0], os.O_RDONLY | os.O_NONBLOCK))
+                    ends.callback(_remove, path)
+                own = ends.enter_context(contextlib.ExitStack())
+                own.callback(os.close, _named_pipe(paths[0], os.O_RDONLY | os.O_NONBLOCK))
                 self._to = _named_pipe(paths[0], os.O_WRONLY)
                 self._from = _named_pipe(paths[1], os.O_RDONLY | os.O_NONBLOCK)
                 os.set_blocking(self._from, True)
+                _widen(self._to)
+                _widen(self._from)
                 os.write(door, name + b"\n")
                 self._send(HEAD.pack(CLOSE_READ, NAMES, 0, 0, 0, 0), memoryview(b""))
             except OSError:
-                raise Error(Why.NOT_STARTED) from None
-            waits = select.poll()
-            waits.register(self._from, select.POLLIN)
-            waits.register(door, 0)
-            came = dict(waits.poll())
+                raise Error(Why.NOT_STARTED, None, None, folder) from None
+            came = self._wait_in(door, own)
             if not came.get(self._from, 0) & select.POLLIN:
-                os.close(self._to)
-                os.close(self._from)
-                raise Error(Why.GONE if door in came else Why.NO_HANDLE)
-        self._take(memoryview(bytearray(ANSWER.size)))
+                raise Error(Why.GONE if door in came or self._from not in came else Why.NO_HANDLE)
+            self._take(memoryview(bytearray(ANSWER.size)))
+
+    def _wait_in(self, door, own):
+        """What comes of the pipes. An engine that died as it had read the name, or that may not open the pipes, never does that. So some time behind
+        that reading somebody else must read the requests: without an end of its own their pipe tells an error where nobody does."""
+        waits = select.poll()
+        waits.register(self._from, select.POLLIN)
+        waits.register(door, 0)
+        most = TAKEN_UP
+        while not (came := dict(waits.poll(most))):
+            unread = struct.unpack("i", fcntl.ioctl(door, termios.FIONREAD, bytes(4)))[0]
+            if not unread:
+                own.close()
+                waits.register(self._to, 0)
+                most = None
+        if came.get(self._from, select.POLLIN) & select.POLLIN == 0 and door not in came:
+            waits.unregister(self._from)
+            came.update(waits.poll(DYING))
+        return came
 
     # ---- requests
 
@@ -254,6 +305,8 @@ class Mount:
         payload, place, extent = _flat(payload), operator.index(place), operator.index(extent)
         if not (0 <= place < 1 << 64 and 0 <= extent < 1 << 64):
             raise Error(Why.BAD_NUMBER)
+        if self._process != os.getpid():  # a child of fork would take its parent's answers
+            raise Error(Why.NOT_OPEN, None, None, *names)
         with self._lock:
             if self._gone:
                 raise Error(self._gone)
@@ -324,11 +377,20 @@ class Mount:
                     pass  # until the engine that was joined has closed what is open, and its end of the pipe
                 os.close(self._from)  # so no answer that nobody takes keeps it from its end
                 self._to = None
-            self._gone = self._gone or Why.GONE
+            self._gone = self._gone or Why.NOT_OPEN
             return self.engine.wait() if self.engine else 0
+
+    def _drop(self):
+        """Closes this process's ends of the pipes, and waits for nothing."""
+        for end in (self._to, self._from):
+            if end is not None:
+                os.close(end)
+        self._to = self._from = None
 
     def close(self):
         """Syncs and closes what is open, and ends the engine that was started. Waits until that is done."""
+        if self._process != os.getpid():
+            self._drop()
         if self._to is None:
             return
         ended = self._end()
@@ -339,9 +401,8 @@ class Mount:
         try:
             if self._process == os.getpid():
                 self.close()
-            elif self._to is not None:  # a copy in a process that was forked: the mount is the other one's
-                os.close(self._to)
-                os.close(self._from)
+            else:  # a copy in a process that was forked: the mount is the other one's
+                self._drop()
         except Exception:  # at the program's end what it calls may be gone
             pass
 

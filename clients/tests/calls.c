@@ -9,6 +9,7 @@
 #include <stdio.h>
 #include <stdlib.h>
 #include <string.h>
+#include <sys/wait.h>
 #include <unistd.h>
 
 static int wrong;
@@ -215,6 +216,32 @@ static void killed(const char *root) {
     is(plfs_unmount(fs), 0);
 }
 
+/* A child of fork, which may use none of its parent's mounts. */
+static void forked(const char *root) {
+    plfs_fs *fs;
+    plfs_file *out;
+    int status = -1;
+    is(plfs_mount(root, 0, &fs), 0);
+    is(plfs_open_write(fs, "forked", &out), 0);
+    fflush(stdout);
+    pid_t child = fork();
+    if (child == 0) {
+        wrong = 0;
+        is(plfs_pwrite(out, "x", 1, 0), -PLFS_NOT_OPEN);
+        is(plfs_stat(fs, "f"), -PLFS_NOT_OPEN);
+        is(plfs_close(out), -PLFS_NOT_OPEN);
+        is(plfs_unmount(fs), -PLFS_NOT_OPEN);
+        fflush(stdout);
+        _exit(wrong);
+    }
+    is(waitpid(child, &status, 0), child);
+    is(status, 0);
+    is(plfs_pwrite(out, "own", 3, 0), 3);
+    is(plfs_close(out), 1);
+    is(plfs_stat(fs, "forked"), 3);
+    is(plfs_unmount(fs), 0);
+}
+
 static void mounts(const char *root, const char *other, const char *away) {
     plfs_fs *fs;
     is(plfs_mount(other, 0, &fs), -PLFS_FAULT);
@@ -252,5 +279,6 @@ int main(int count, char **words) {
     damaged(words[1]);
     mounts(words[1], words[2], words[3]);
     killed(words[1]);
+    forked(words[1]);
     return wrong;
 }

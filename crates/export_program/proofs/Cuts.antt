@@ -17,13 +17,13 @@ use Rattle.program_ends.specs.SoundTrees.{TellsSoundTree}
 use Rattle.export_program.specs.declared.filling.Filled.{Filled}
 use Rattle.export_program.specs.Course.{IsExported}
 use Rattle.export_program.specs.Exporting.{WritesFile}
-use Rattle.export_program.specs.Filling.{Fills, FillsMade, KeepsWhole}
+use Rattle.export_program.specs.Filling.{BeginsToFill, Fills, FillsMade, KeepsWhole}
 use Rattle.export_program.specs.Filling as filling
 use Rattle.export_program.specs.Looking.{HasOnlyLooked}
 use Rattle.export_program.specs.Passing.{At, HavePassed, Passes, PassesFile, WritesAll, at}
 use Rattle.export_program.specs.Passing as passing
 use Rattle.export_program.specs.Seen.{HoldCuts, HoldsCut, IsCut, IsSeenWhole}
-use Rattle.export_program.specs.Shelf.{Adds, Deed, IsEmpty, kept, unkept, unmade}
+use Rattle.export_program.specs.Shelf.{Adds, Deed, IsEmpty, kept, starved, unkept, unmade}
 use Rattle.export_program.proofs.Leading.{all_both, all_lead, called_both, have_lead, makes_lead}
 use Rattle.export_program.proofs.Looks.{names_look}
 
@@ -81,11 +81,16 @@ module _ (law : WholeLaw) (m : Moment) (sound : IsSoundAt m) where
   fill_holds name start deeds told end deeds_after reached (filling.exists adds same is) = hold_one m.state (unmade name _) deeds deeds_after tt adds
   fill_holds name start deeds told end deeds_after reached (filling.failed adds same is) = hold_one m.state (unmade name _) deeds deeds_after tt adds
 
+  begun_holds : (name : Name) (start : State) (deeds : Option (List Deed)) (end : State) (deeds_after : Option (List Deed)) → BeginsToFill name start deeds end deeds_after → HoldCuts m.state deeds deeds_after
+  begun_holds name start deeds end deeds_after (filling.in_filling taking empty (filling.in_writing after begins same)) = hold_still m.state deeds deeds_after same
+  begun_holds name start deeds end deeds_after (filling.in_filling taking empty (filling.in_keeping size after writes adds)) = hold_one m.state (starved name) deeds deeds_after tt adds
+  begun_holds name start deeds end deeds_after (filling.in_making adds same) = hold_one m.state (unmade name _) deeds deeds_after tt adds
+
   -- ---- one behind the other
 
   passed_file_holds : (name : Name) (old new : At) (status : ℕ) (ends : Bool) → HasOnlyLooked m.state old.state → PassesFile name old new status ends → HoldCuts m.state old.deeds new.deeds
   passed_file_holds name old new status ends reached (passing.fills told f truly line) = fill_holds name old.state old.deeds told new.state new.deeds reached f
-  passed_file_holds name old new status ends reached (passing.broke_off (taking, empty, (after, begins, same)) untold is last) = hold_still m.state old.deeds new.deeds same
+  passed_file_holds name old new status ends reached (passing.broke_off begins untold is last) = begun_holds name old.state old.deeds new.state new.deeds begins
 
   passes_hold : (name : Name) (old new : At) (status : ℕ) (ends : Bool) → HasOnlyLooked m.state old.state → Passes name old new status ends → HoldCuts m.state old.deeds new.deeds
   passes_hold name old new status ends reached (passing.passes logical f) = passed_file_holds name old new status ends reached f

@@ -118,7 +118,9 @@ fill_leads name start deeds told end deeds_after (filling.exists adds same is) =
 fill_leads name start deeds told end deeds_after (filling.failed adds same is) = still start end same
 
 begun_fill_leads : (name : List ℕ) (start : State) (deeds : Option (List Deed)) (end : State) (deeds_after : Option (List Deed)) → BeginsToFill name start deeds end deeds_after → HasOnlyLooked start end
-begun_fill_leads name start deeds end deeds_after (taking, empty, (after, begins, same)) = begun_leads name start taking end after begins
+begun_fill_leads name start deeds end deeds_after (filling.in_filling taking empty (filling.in_writing after begins same)) = begun_leads name start taking end after begins
+begun_fill_leads name start deeds end deeds_after (filling.in_filling taking empty (filling.in_keeping size after writes adds)) = file_leads name start taking _ end after writes
+begun_fill_leads name start deeds end deeds_after (filling.in_making adds same) = still start end same
 
 passed_file_leads : (name : List ℕ) (old new : At) (status : ℕ) (ends : Bool) → PassesFile name old new status ends → HasOnlyLooked old.state new.state
 passed_file_leads name old new status ends (passing.fills told f truly line) = fill_leads name old.state old.deeds told new.state new.deeds f

@@ -9,7 +9,7 @@ use Rattle.export_program.specs.declared.piece.Unwritten.{Unwritten}
 use Rattle.export_program.specs.Pieces.{HaveWritten, WritesPiece, piece_program, pieces_of}
 use Rattle.export_program.specs.Exporting.{BeginsToWriteOut, WritesOut, ended, whole}
 use Rattle.export_program.specs.declared.filling.Filled.{Filled}
-use Rattle.export_program.specs.Filling.{Fills, FillsMade, fills}
+use Rattle.export_program.specs.Filling.{BeginsToFill, BeginsToFillMade, Fills, FillsMade, fills, in_filling}
 use Rattle.export_program.specs.Shelf.{Deed, IsEmpty}
 
 abbrev MakesPiece : OpenReader → ℕ → State → List ℕ → State → Type 0
@@ -57,3 +57,6 @@ where_refused (Err why) P Q goes holds = goes holds
 -- a file that was made without bytes, and filled
 pub made_fills : (name : List ℕ) (start : State) (deeds mid : Option (List Deed)) (taking : Taking) (told : Filled) (end : State) (deeds_after : Option (List Deed)) → IsEmpty taking → mid ≡ deeds → FillsMade name taking start mid told end deeds_after → Fills name start deeds told end deeds_after
 made_fills name start deeds mid taking told end deeds_after empty same f = fills taking empty (subst (λ (d : Option (List Deed)). FillsMade name taking start d told end deeds_after) same f)
+
+pub made_begins : (name : List ℕ) (start : State) (deeds mid : Option (List Deed)) (taking : Taking) (end : State) (deeds_after : Option (List Deed)) → IsEmpty taking → mid ≡ deeds → BeginsToFillMade name taking start mid end deeds_after → BeginsToFill name start deeds end deeds_after
+made_begins name start deeds mid taking end deeds_after empty same b = in_filling taking empty (subst (λ (d : Option (List Deed)). BeginsToFillMade name taking start d end deeds_after) same b)

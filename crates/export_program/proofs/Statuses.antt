@@ -1,6 +1,6 @@
 -- What the status of an export says of the troubles behind it.
 use Rattle.std.proofs.Common.{◌≡◌, ◌≢◌, ◌⊎◌, ◌∙◌, ◌≤◌, inl, inr, ℕ, Bool, true, false, max, List, [], ◌∷◌, Option, Some, Ok, Err, Result, refl, sym, ap, subst, arith}
-use Rattle.std.specs.Prelude.{◌||◌, if◌then◌else◌}
+use Rattle.std.specs.Prelude.{if◌then◌else◌}
 use Rattle.std.proofs.lemmas.Bool.{cases_lt}
 use Rattle.plfs_types.specs.Counts.{HasRisen}
 use Rattle.edge_io.specs.Sink.{Taking}
@@ -23,12 +23,11 @@ use Rattle.mount_model.specs.declared.stuck.Stuck.{Stuck as Trouble}
 use Rattle.mount_model.specs.declared.stuck.Stuck.TheVariants as trouble
 use Rattle.trouble_laws.specs.Undamaged.{IsNoDamage}
 use Rattle.actor_core.specs.Names.{names_program}
-use Rattle.lone_flow.specs.Driving.{Makes}
 use Rattle.script_lang.specs.declared.line.Line.{Line}
 use Rattle.run_core.proofs.Facts.{risen_before}
 use Rattle.program_ends.specs.Ends.{Ends}
 use Rattle.program_ends.specs.Mounting.{IsUnmounted}
-use Rattle.program_ends.specs.Outcomes.{has_line, is_damage, is_fault, is_refusal, status_of}
+use Rattle.program_ends.specs.Outcomes.{has_line, is_damage, is_fault, is_refusal}
 use Rattle.program_ends.specs.Reported.{IsReported}
 use Rattle.program_ends.specs.SoundTrees.{TellsSoundTree}
 use Rattle.program_ends.specs.Unmounted.{IsUnmountedSaid}

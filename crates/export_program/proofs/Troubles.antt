@@ -1,5 +1,5 @@
 -- A file's trouble is told truly, and so is that of who names all files.
-use Rattle.std.proofs.Common.{◌≡◌, ◌≢◌, ◌⊎◌, inl, inr, ℕ, ◌*◌, ◌-◌, ◌≤◌, Bool, true, false, List, [], ◌∷◌, ◌++◌, length, Option, Result, Ok, Err, refl, sym, ap, ◌∙◌, subst, arith}
+use Rattle.std.proofs.Common.{◌≡◌, ◌≢◌, inl, inr, ℕ, ◌*◌, ◌-◌, ◌≤◌, true, false, List, [], ◌∷◌, ◌++◌, length, Option, Result, Ok, Err, refl, sym, ap, ◌∙◌, subst, arith}
 use Rattle.std.specs.List.{AllByRecursion, range_with_len}
 use Rattle.plfs_types.specs.Counts.{HasRisen}
 use Rattle.turn_object.proofs.Facts.{state_append}
@@ -8,7 +8,6 @@ use Rattle.read_plan.specs.Plan.{plan_of}
 use Rattle.mount_model.specs.Program.{Program, done, ask}
 use Rattle.mount_model.specs.declared.stuck.Stuck.{Stuck as Trouble}
 use Rattle.mount_model.specs.declared.stuck.Stuck.TheVariants as trouble
-use Rattle.mount_model.specs.FlowReplies.{failure}
 use Rattle.mount_model.specs.Running.{Runs}
 use Rattle.mount_model.proofs.Flows.Facts.{runs_done, runs_next}
 use Rattle.mount_model.specs.declared.call.Ask.{Ask}
@@ -36,22 +35,22 @@ use Rattle.opening_flow.specs.Opening.{opening_program, opens as opens_from, rea
 use Rattle.actor_core.specs.Names.{names_program, names_told}
 use Rattle.reader_laws.specs.Moments.{IsSoundAt, Moment, next_moment}
 use Rattle.reader_laws.proofs.Gathered.Facts.{sound_after}
-use Rattle.reader_laws.specs.Failing.{FailsByStore, FailsOrLacks}
+use Rattle.reader_laws.specs.Failing.{FailsOrLacks}
 use Rattle.reader_laws.specs.Opened.{HasOpenedIn}
 use Rattle.trouble_laws.specs.Ends.{AlwaysEnds}
 use Rattle.trouble_laws.specs.Undamaged.{IsNoDamage, IsUndamaged}
-use Rattle.trouble_laws.proofs.Facts.{ends_call, ends_done, failure_plain}
+use Rattle.trouble_laws.proofs.Facts.{ends_call, ends_done}
 use Rattle.packing_laws.specs.Seen.{moment_seen}
 use Rattle.packing_laws.proofs.Unpacking.Facts.{Follows, HasReached, HasSeen, OpeningsEnd, ReadTrouble, ReadsFail, follows, has_seen, reads_fail}
 use Rattle.export_program.specs.declared.filling.Filled.{Filled}
 use Rattle.export_program.specs.declared.filling.Filled.TheVariants as filled
 use Rattle.export_program.specs.declared.piece.Unwritten.{Unwritten}
 use Rattle.export_program.specs.declared.piece.Unwritten.TheVariants as unwritten
-use Rattle.export_program.specs.Exporting.{WritesFile, WritesOut, ended, opens, opens_stuck, whole}
+use Rattle.export_program.specs.Exporting.{WritesFile, ended, opens, opens_stuck, whole}
 use Rattle.export_program.specs.Filling.{Fills, FillsMade}
 use Rattle.export_program.specs.Filling as filling
 use Rattle.export_program.specs.Looking.{HasOnlyLooked}
-use Rattle.export_program.specs.Pieces.{HaveWritten, WritesPiece, piece_length, piece_program}
+use Rattle.export_program.specs.Pieces.{WritesPiece, piece_length, piece_program}
 use Rattle.export_program.specs.Shelf.{Deed}
 use Rattle.export_program.specs.Troubles.{IsTrueTrouble}
 use Rattle.export_program.proofs.Leading.{makes_lead, written_leads}

@@ -13,7 +13,7 @@ use Rattle.reader_laws.specs.Opened.{HasOpenedIn}
 use Rattle.packing_laws.specs.Seen.{file_seen}
 use Rattle.program_ends.specs.Output.{IsPrinted}
 use Rattle.export_program.specs.Looking.{HasOnlyLooked}
-use Rattle.export_program.specs.Shelf.{Deed, kept, unkept, unmade}
+use Rattle.export_program.specs.Shelf.{Deed, kept, starved, unkept, unmade}
 
 -- Behind a greeting caller 0 by itself opened a reader of the file of this name.
 pub record SeesFile (name : List ℕ) (start : Moment) : Type 0 where
@@ -48,6 +48,7 @@ abbrev pub HoldsCut : State → Deed → Type 0
 HoldsCut start (unmade name why) = Unit {0}
 HoldsCut start (kept name bytes) = IfSome bytes (IsCut start name)
 HoldsCut start (unkept name) = Unit {0}
+HoldsCut start (starved name) = Unit {0}
 
 -- so it is of each file that was kept
 abbrev pub HoldCuts : State → Option (List Deed) → Option (List Deed) → Type 0

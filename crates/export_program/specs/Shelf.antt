@@ -1,13 +1,15 @@
 -- What is done where files are kept under names.
 use Rattle.std.specs.Prelude.{◌≡◌, ℕ, Bool, true, false, List, [], ◌∷◌, Option, Some, None, Result, Ok, Err, IfSome}
+use Rattle.plfs_types.specs.declared.memory.NoMemory.{NoMemory}
 use Rattle.edge_io.specs.Sink.{Taking}
 use Rattle.export_program.specs.declared.shelf.Unmade.{Unmade}
 
--- No file of this name was made. Or one was kept, with these bytes where it tells them. Or one could not be kept.
+-- No file of this name was made. Or one was kept, with these bytes where it tells them. Or one could not be kept, or not for want of memory.
 pub data Deed : Type 0 where
   unmade : List ℕ → Unmade → Deed
   kept : List ℕ → Option (List ℕ) → Deed
   unkept : List ℕ → Deed
+  starved : List ℕ → Deed
 
 -- told deeds grow by this one; deeds that aren't told stay untold
 abbrev pub Adds : Deed → Option (List Deed) → Option (List Deed) → Type 0
@@ -22,6 +24,7 @@ abbrev pub Makes : {F : Type 0} → (F → Taking) → List ℕ → Option (List
 Makes taking name old new (Ok file) = IsEmpty (taking file) × (new ≡ old)
 Makes taking name old new (Err why) = Adds (unmade name why) old new
 
-abbrev pub Keeps : List ℕ → Taking → Option (List Deed) → Option (List Deed) → Bool → Type 0
-Keeps name taking old new true = Adds (kept name taking.taken) old new
-Keeps name taking old new false = Adds (unkept name) old new
+abbrev pub Keeps : List ℕ → Taking → Option (List Deed) → Option (List Deed) → Result Bool NoMemory → Type 0
+Keeps name taking old new (Ok true) = Adds (kept name taking.taken) old new
+Keeps name taking old new (Ok false) = Adds (unkept name) old new
+Keeps name taking old new (Err refused) = Adds (starved name) old new

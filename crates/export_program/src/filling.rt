@@ -2,6 +2,7 @@
 ghost use Rattle.std.specs.Prelude.{IfOk, OnErr};
 ghost use Rattle.mount_sound.specs.Sound.{IsFine};
 ghost use Rattle.export_program.specs.Filling.{BeginsToFill, BeginsToFillMade, Fills, FillsMade, KeepsWhole};
+ghost use Rattle.export_program.specs.Shelf.{Adds, starved};
 
 use crate::exporting::write_file;
 use crate::piece::Unwritten;
@@ -27,13 +28,19 @@ pub(crate) enum Filled {
 }
 
 /// Keeps the file that has all of its bytes, which are so many.
-fn keep_whole<F: Sink, H: Shelf<F>>(name: LogicalName, size: u64, file: F, shelf: &mut H) -> Filled
-    ensures { KeepsWhole name size (F.taking file) (H.deeds shelf.old) result (H.deeds shelf.new) }
+fn keep_whole<F: Sink, H: Shelf<F>>(
+    name: LogicalName,
+    size: u64,
+    file: F,
+    shelf: &mut H,
+) -> Result<Filled, NoMemory>
+    ensures keeps { IfOk result (λ told. KeepsWhole name size (F.taking file) (H.deeds shelf.old) told (H.deeds shelf.new)) }
+    ensures refused { OnErr result (Adds (starved name) (H.deeds shelf.old) (H.deeds shelf.new)) }
 {
-    if shelf.keep(name, file) {
-        Filled::Whole { size }
+    if shelf.keep(name, file)? {
+        Ok(Filled::Whole { size })
     } else {
-        Filled::Failed
+        Ok(Filled::Failed)
     }
 }
 
@@ -52,7 +59,7 @@ fn fill_made<S: Store + Drop, C: Clock + Drop, F: Sink, H: Shelf<F>>(
 {
     let mut file = file;
     match write_file(alloc, mount, name, &mut file) {
-        Ok(Ok(size)) => Ok(keep_whole(name, size, file, shelf)),
+        Ok(Ok(size)) => keep_whole(name, size, file, shelf),
         Ok(Err(Unwritten::Stuck(why))) => {
             shelf.discard(file);
             Ok(Filled::Stuck(why))
@@ -68,7 +75,7 @@ fn fill_made<S: Store + Drop, C: Clock + Drop, F: Sink, H: Shelf<F>>(
     }
 }
 
-/// Makes a file, and writes the one of this name into it. It is kept where all was written.
+/// Makes a file, and writes the one of this name into it. It is kept where all was written. Want of memory is told as nothing else.
 pub(crate) fn fill<S: Store + Drop, C: Clock + Drop, F: Sink, H: Shelf<F>>(
     alloc: Global,
     mount: &mut Mount<S, C>,
@@ -84,5 +91,6 @@ pub(crate) fn fill<S: Store + Drop, C: Clock + Drop, F: Sink, H: Shelf<F>>(
         Ok(file) => fill_made(alloc, mount, name, file, shelf),
         Err(Unmade::Exists) => Ok(Filled::Exists),
         Err(Unmade::Failed) => Ok(Filled::Failed),
+        Err(Unmade::NoMemory) => Err(NoMemory),
     }
 }

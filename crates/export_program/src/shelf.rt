@@ -3,15 +3,17 @@ ghost use Rattle.std.specs.Prelude.{◌≡◌, List, Option};
 ghost use Rattle.export_program.specs.Shelf.{Deed, Keeps, Makes};
 
 use edge_io::Sink;
-use plfs_types::LogicalName;
+use plfs_types::{LogicalName, NoMemory};
 
 /// Why a file isn't made.
 #[derive(Clone, Copy)]
 pub enum Unmade {
     /// One of this name is there, and may not be written over.
     Exists,
-    /// It can't be made.
+    /// It can't be made, though memory was had.
     Failed,
+    /// Memory was refused.
+    NoMemory,
 }
 
 /// A place where files are kept under names. Nothing that is there is touched before a file is kept.
@@ -23,8 +25,8 @@ pub trait Shelf<F: Sink> {
     fn make(&mut self, name: LogicalName) -> Result<F, Unmade>
         ensures { Makes (F.taking) name (deeds self.old) (deeds self.new) result };
 
-    /// Keeps the file under this name, and answers whether it could.
-    fn keep(&mut self, name: LogicalName, file: F) -> bool
+    /// Keeps the file under this name, and answers whether it could. After `NoMemory` it is not kept.
+    fn keep(&mut self, name: LogicalName, file: F) -> Result<bool, NoMemory>
         ensures { Keeps name (F.taking file) (deeds self.old) (deeds self.new) result };
 
     /// Lets a file go that is not to be kept.

@@ -1,5 +1,5 @@
 -- A head, and what came behind it.
-use Rattle.std.proofs.Common.{ℕ, ◌≡◌, ◌≢◌, ◌<◌, inl, inr, List, [], ◌++◌, length, Result, Ok, Err, refl, sym, ap, subst, ◌∙◌, append-nil, arith, length-append}
+use Rattle.std.proofs.Common.{ℕ, ◌≡◌, ◌≢◌, inl, inr, List, [], ◌++◌, Result, Ok, Err, refl, sym, ap, subst, ◌∙◌, append-nil}
 use Rattle.std.specs.Prelude.{IfOk, OnErr}
 use Rattle.plfs_types.specs.Counts.{HasRisen}
 use Rattle.edge_io.specs.Source.{Given, HandsOver}
@@ -8,9 +8,8 @@ use Rattle.frame_format.specs.Heads.{head_bytes}
 use Rattle.frame_streams.specs.declared.arriving.Arrival.{Arrival}
 use Rattle.frame_streams.specs.declared.arriving.Arrival.TheVariants.{Frame, End, Cut, Long, Failed}
 use Rattle.frame_streams.specs.declared.filling.Ending.TheVariants as endings
-use Rattle.frame_streams.specs.Arriving.{Arrives, ArrivesBehind, Begins, Ends, HasNoRoom, IsBehind, IsFront, IsOf, in_head, in_payload}
+use Rattle.frame_streams.specs.Arriving.{Arrives, ArrivesBehind, Begins, Ends, HasNoRoom, IsBehind, IsOf, in_head, in_payload}
 use Rattle.frame_streams.specs.Filling.{HasFilled}
-use Rattle.edge_io.specs.Source.{IsAtEnd}
 use Rattle.frame_streams.proofs.Readings.{handed_both, handed_none}
 
 some_bytes : (head : Head) (rest : List ℕ) → head_bytes head ++ rest ≢ []

@@ -2,3 +2,4 @@ mod Arrivals
 pub mod Facts
 mod Outputs
 mod Readings
+pub mod Untold

@@ -62,3 +62,16 @@ pub record ArrivesBehind (head : Head) (arrival : Arrival) (old new : Given) : T
 -- memory was refused for what follows, and none of it was read
 abbrev pub HasNoRoom : Head → Given → Given → Type 0
 HasNoRoom head old new = (head.len ≤ MAX_BLOCK) × (new ≡ old)
+
+-- ---- of bytes that aren't told
+
+-- it may come of some bytes: a frame has just the bytes that its head says, and of a long one the head says too many
+abbrev pub MayArrive : Arrival → Type 0
+MayArrive arrival =
+    ((head : Head) (payload : List ℕ) → arrival ≡ Frame head payload → (length payload ≡ head.len) × (head.len ≤ MAX_BLOCK))
+    × ((head : Head) → arrival ≡ Long head → MAX_BLOCK < head.len)
+
+-- these are the counts of faults before it and behind it
+abbrev pub CountsFault : Arrival → ℕ → ℕ → Type 0
+CountsFault Failed before after = HasRisen before after
+CountsFault other before after = after ≡ before

@@ -6,7 +6,9 @@
 
 mod arriving;
 mod filling;
+mod frames;
 mod writing;
 
 pub use arriving::{Arrival, next_frame};
+pub use frames::{Frames, SourceFrames};
 pub use writing::write_answer;

@@ -21,10 +21,10 @@ use Rattle.headline.specs.Changes.{Holds, IsAlive, IsStampIn, IsTruncStamp, MayB
 
 -- ---- of writers
 
--- A writer of this host had the container open: its entry stood in the tree before, and no recovery took it out that ended before; or it is alive.
+-- A writer of this host had the container open: its entry stood in the tree before, and no recovery of the container took it out that ended before; or it is alive.
 pub data IsOpenIn (run : Run) (story : Story) (t : Told) (host id : ℕ) : Type 0 where
   stood : Has run.before (story.of t) (OpenHost host id)
-      → ((s : Told) (buried : List WriterCount) (alive : List ℕ) (hold : Bool) → IsLine run s → surely_before run s t ≡ true → s.outcome ≡ Recovered buried alive hold → Any (λ (b : WriterCount). b.writer ≡ id) buried → ⊥)
+      → ((s : Told) (buried : List WriterCount) (alive : List ℕ) (hold : Bool) → IsLine run s → surely_before run s t ≡ true → story.of s ≡ story.of t → s.outcome ≡ Recovered buried alive hold → Any (λ (b : WriterCount). b.writer ≡ id) buried → ⊥)
       → IsOpenIn run story t host id
   alive : IsAlive run story t host id → IsOpenIn run story t host id
 

@@ -77,6 +77,7 @@ pub record Headline (run : Run) (story : Story) : Type 0 where
   pub left : (n : ℕ) (w : Writer) → IsWriter run story n (told run) (told run) w → IsLeft run n w
   pub closed : (t : Told) (count n : ℕ) (w : Writer) → Says run t (line.Closed count) → writer_at run t ≡ Some w.id → IsWriter run story n (told run) (told run) w → HasLeft run n w
   pub kept : (t : Told) (n : ℕ) (w : Writer) → IsLine run t → StaysOpen run t w.id → IsWriter run story n (told run) (told run) w → Has run.after n (OpenHost w.host w.id)
-  -- truncates and indices stand, and no others than those of the lines
+  -- truncates and indices stand, and no others than those of the lines; so it is of entries of open writers, but these may go
   pub truncs : (n : ℕ) → AreTruncsLeft run story n
   pub indices : (n host id : ℕ) → Has run.after n (Index host id) → Has run.before n (Index host id) ⊎ ((o : Told) × OpensIn run story o n host id)
+  pub entries : (n host id : ℕ) → Has run.after n (OpenHost host id) → Has run.before n (OpenHost host id) ⊎ ((o : Told) × OpensIn run story o n host id)

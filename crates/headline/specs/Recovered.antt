@@ -18,14 +18,14 @@ use Rattle.headline.specs.Left.{StaysOpen}
 abbrev pub IsStillOpen : Run → Told → Told → Type 0
 IsStillOpen run t o = (s : Told) → IsLine run s → s.actor ≡ o.actor → o.place < s.place → surely_before run t s ≡ false → (s.statement ≡ Close → ⊥) × (s.outcome ≡ Stopped → ⊥)
 
--- A writer that was taken out has no entry of an open writer any more. It is none that a line opened before and whose actor has it still, nor one that its actor has at the end.
+-- A writer that was taken out has no entry of an open writer any more. It is none that a line opened which began by the end of this one, and whose actor has it still, nor one that its actor has at the end.
 -- Just so many of its writes have landed, also where these are none: no fewer than surely had before the line, and no more than may have by its end. Where it
 -- wrote, it is one of the tree before or one that a line opened. All writers of its number in the container are of its host.
 pub record TakesOut (run : Run) (story : Story) (t : Told) (b : WriterCount) : Type 0 where
   pub host : ℕ
   pub gone : (open_by : ℕ) → IsItem (OpenHost open_by b.writer) → Has run.after (story.of t) (OpenHost open_by b.writer) → ⊥
   pub spared : (o : Told) → IsLine run o → story.of o ≡ story.of t → StaysOpen run o b.writer → ⊥
-  pub dead : (o : Told) → IsLine run o → o.outcome ≡ Opened b.writer → story.of o ≡ story.of t → surely_before run o t ≡ true → IsStillOpen run t o → ⊥
+  pub dead : (o : Told) → IsLine run o → o.outcome ≡ Opened b.writer → story.of o ≡ story.of t → surely_before run t o ≡ false → IsStillOpen run t o → ⊥
   pub counted : (w : Writer) → w.id ≡ b.writer → IsWriter run story (story.of t) (before run t) (so_far run t) w → (w.least ≤ b.count) × (b.count ≤ w.most)
   pub landed : b.count ≡ length (landed_writes run.after (story.of t) host b.writer)
   pub its_host : (w : Writer) → w.id ≡ b.writer → IsWriter run story (story.of t) (before run t) (so_far run t) w → w.host ≡ host

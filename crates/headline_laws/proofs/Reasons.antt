@@ -1,6 +1,7 @@
 -- For which reasons statements are refused.
 pub mod Along
 pub mod Asking
+pub mod Busy
 pub mod Containers
 pub mod Flattening
 pub mod Goes

@@ -1,17 +1,18 @@
 -- What a line that tells of a refusal shows of the container that its statement was to hold, or to name.
-use Rattle.std.specs.Prelude.{◌≡◌, ℕ, List, ◌∷◌, ◌++◌, Some}
+use Rattle.std.specs.Prelude.{◌≡◌, ◌≤◌, ℕ, List, ◌∷◌, ◌++◌, Some}
+use Rattle.plfs_types.specs.declared.limits.TheConstants.{MAX_STAMP}
 use Rattle.container_layout.specs.declared.items.Item.TheVariants.{OpenHost}
 use Rattle.store_api.specs.declared.tree.Tree.{Tree}
 use Rattle.store_laws.specs.There.{LacksFolder, ListsFolder}
-use Rattle.mount_model.specs.declared.call.Call.TheVariants.{Find, Hold, Move}
+use Rattle.mount_model.specs.declared.call.Call.TheVariants.{Find, Hold, Mark, Move}
 use Rattle.mount_model.specs.declared.reply.Refusal.{Refusal}
-use Rattle.mount_model.specs.declared.reply.Refusal.TheVariants.{Busy, Exists, Held, NoRoom}
+use Rattle.mount_model.specs.declared.reply.Refusal.TheVariants.{Busy, Exists, Held, NoRoom, StampsSpent}
 use Rattle.mount_model.specs.declared.reply.Reply.TheVariants.{Refused, Room as Found}
 use Rattle.mount_model.specs.History.{Event}
 use Rattle.mount_model.specs.Paths.{Name, open_path}
 use Rattle.container_layout.specs.Paths.{openhosts}
 use Rattle.reader_laws.specs.Moments.{HadItem, Moment, moment_after}
-use Rattle.headline_laws.specs.Changing.{Change, IsAnswered, IsChange, IsFreeName, until_changed}
+use Rattle.headline_laws.specs.Changing.{Change, IsAnswered, IsChange, IsFreeName, IsTopIn, until_changed}
 use Rattle.reader_laws.specs.Naming.{IsRoomNamed}
 use Rattle.headline_laws.specs.Opening.{Stretch}
 
@@ -83,3 +84,13 @@ pub record FindsTaken (start : Moment) (caller : ℕ) (stretch : Stretch) (name 
   pub made : IsChange start caller stretch name (λ holder. Move holder to) (Refused Exists) change
   pub other : ℕ
   pub taken : IsRoomNamed (until_changed start stretch change) to other
+
+-- ---- no stamp is left
+
+-- In this stretch the caller found the container of this name and held it, and was to truncate it while the last stamp of all stood there.
+pub record FindsSpent (start : Moment) (caller : ℕ) (stretch : Stretch) (name : Name) (size : ℕ) : Type 0 where
+  pub top : ℕ
+  pub change : Change
+  pub made : IsChange start caller stretch name (λ holder. Mark holder size top) (Refused StampsSpent) change
+  pub stood : IsTopIn (until_changed start stretch change) change.room top
+  pub spent : MAX_STAMP ≤ top

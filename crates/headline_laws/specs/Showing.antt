@@ -8,7 +8,7 @@ use Rattle.mount_model.specs.Paths.{Name}
 use Rattle.script_lang.specs.declared.line.Outcome.{Outcome}
 use Rattle.script_lang.specs.declared.line.Outcome.TheVariants.{Reader, Read as WasRead, Same, Differs, Map as Mapped, ReaderClosed, Stat as Told, Truncated, Renamed, Recovered, Flattened, Refused, Damaged, Stopped, Gone}
 use Rattle.script_lang.specs.declared.line.Why.{Why}
-use Rattle.script_lang.specs.declared.line.Why.TheVariants.{AlreadyOpen, Busy, Exists, Held, NoFile, NotOpen}
+use Rattle.script_lang.specs.declared.line.Why.TheVariants.{AlreadyOpen, Busy, Exists, Held, NoFile, NotOpen, StampsSpent}
 use Rattle.script_lang.specs.declared.script.Data.{Data}
 use Rattle.script_lang.specs.declared.script.Statement.{Statement}
 use Rattle.script_lang.specs.declared.script.Statement.TheVariants.{Ropen, Read, Verify, Map, Refresh, Rclose, Stat, Trunc as Truncate, Rename, Recover, Flatten}
@@ -23,7 +23,7 @@ use Rattle.headline_laws.specs.Telling.{ShowsTold}
 use Rattle.headline_laws.specs.Changing.{RenamesFile, TruncatesFile}
 use Rattle.headline_laws.specs.Flattening.{FlattensFile}
 use Rattle.headline_laws.specs.Recovering.{RecoversFile}
-use Rattle.headline_laws.specs.Refusing.{FindsHeld, FindsNone, FindsOpen, FindsTaken}
+use Rattle.headline_laws.specs.Refusing.{FindsHeld, FindsNone, FindsOpen, FindsSpent, FindsTaken}
 use Rattle.headline_laws.specs.Ending.{EndsEarly, DoesNothing, OpensNone}
 
 -- ---- the line of an opening
@@ -109,6 +109,11 @@ ShowsUnheld start caller stretch name (Busy host writer) = FindsOpen start calle
 ShowsUnheld start caller stretch name Held = FindsHeld start caller stretch name
 ShowsUnheld start caller stretch name because = ⊤
 
+-- the same, or that no stamp was left
+abbrev pub ShowsUnmarked : Moment → ℕ → Stretch → Name → ℕ → Why → Type 0
+ShowsUnmarked start caller stretch name size StampsSpent = FindsSpent start caller stretch name size
+ShowsUnmarked start caller stretch name size because = ShowsUnheld start caller stretch name because
+
 -- the same, or that its new name was taken
 abbrev pub ShowsUnnamed : Moment → ℕ → Stretch → Name → Name → Why → Type 0
 ShowsUnnamed start caller stretch name to Exists = FindsTaken start caller stretch name to
@@ -117,7 +122,7 @@ ShowsUnnamed start caller stretch name to because = ShowsUnheld start caller str
 -- a file was truncated so, renamed, recovered, or flattened, or why it was not; no other line is one of a reader, nor of damage
 abbrev pub ShowsTruncate : Moment → ℕ → Stretch → Name → ℕ → Outcome → Type 0
 ShowsTruncate start caller stretch name size (Truncated stamp) = TruncatesFile start caller stretch name size stamp
-ShowsTruncate start caller stretch name size (Refused because) = ShowsUnheld start caller stretch name because
+ShowsTruncate start caller stretch name size (Refused because) = ShowsUnmarked start caller stretch name size because
 ShowsTruncate start caller stretch name size other = ShowsNone other
 
 abbrev pub ShowsRename : Moment → ℕ → Stretch → Name → Name → Outcome → Type 0

@@ -14,7 +14,7 @@ ghost use Rattle.headline_laws.specs.Undamaged.{AreUndamaged};
 /// A law: where the lines of a script are right, from a sound state on, those of each reader show one plain file, in whatever order the actors call, and so does
 /// each line that tells of a file. The line of a refresh shows a later file of the same container, with all writes and truncates of the former one, which the
 /// reader has from then on; where the store fails, the reader has the former one still. The line of a truncate, of a rename, of a flattening or of a recovery
-/// shows what was done to the container, and one that refuses a truncate or a rename as of no such file, as busy, as held or as one that exists shows that it was
+/// shows what was done to the container, and one that refuses a truncate or a rename as of no such file, as busy, as held, as one that exists or for want of a stamp shows that it was
 /// so. So do the lines of a play that began in a state that is fine and clean. They also show what each actor's writer wrote, synced and closed: the line of an
 /// opening names the writer that was entered, that of a write the one Write that was answered with its stamp, and the number of a sync or a close is that of the
 /// writer's writes that were answered, which the mount told as synced by then. So a reader whose first call comes later misses none of them.

@@ -1,9 +1,9 @@
 -- What repeats agrees with data that repeats, where it begins so.
-use Rattle.std.proofs.Common.{◌≡◌, ℕ, zero, suc, ◌+◌, ◌-◌, ◌*◌, ◌/◌, ◌%◌, ◌<◌, ◌≤◌, Bool, true, false, inl, inr, List, [], ◌∷◌, ◌++◌, length, map, take, drop, get_or, replicate, Option, None, Some, refl, sym, ap, ◌∙◌, arith, nat_eq, not}
+use Rattle.std.proofs.Common.{◌≡◌, ℕ, zero, suc, ◌+◌, ◌-◌, ◌*◌, ◌/◌, ◌%◌, ◌<◌, ◌≤◌, Bool, true, false, inl, inr, List, [], ◌∷◌, ◌++◌, length, map, take, drop, get_or, replicate, Option, None, Some, refl, sym, ap, ◌∙◌, arith, nat_eq, not, mul-suc, add-one}
 use Rattle.std.specs.Prelude.{if◌then◌else◌, min}
 use Rattle.std.specs.List.{range_with_len}
 use Rattle.std.specs.Option.{is_some}
-use Rattle.std.proofs.Math.Nat.{add-mod_right, add-mul-mod_self_left, div-add-mod}
+use Rattle.std.proofs.Math.Nat.{add-mod_right, add-mul-mod_self_left, div-add-mod, mul_assoc}
 use Rattle.std.proofs.lemmas.Bool.{cases_lt, false≢true}
 use Rattle.std.proofs.lemmas.Bool.Decides.{nat_tests}
 use Rattle.std.proofs.lemmas.Option.{none-some}
@@ -110,7 +110,7 @@ ramp_agrees len first found is none =
     agrees_at (map (ramp_byte first) (range_with_len 0 (min len 256))) found 0 none i (omega (arith, within, short)) ∙ so_far first (min len 256) i within ∙ sym (so_far first len i lt))
     j (omega (arith, lt, long)))
 
--- ---- a ramp is made period by period
+-- ---- a ramp is made by copies of its front
 
 abbrev pub ramp_of : ℕ → ℕ → List ℕ
 ramp_of first len = map (ramp_byte first) (range_with_len 0 len)
@@ -129,10 +129,26 @@ ramp_on first periods (suc more) =
     ∙ ap (λ b. ramp_of first n ++ (ramp_of first more ++ b ∷ [])) (past_periods first periods more)
     ∙ ap (λ xs. ramp_of first n ++ xs) (sym (map-range_with_len_more (ramp_byte first) 0 more more (omega arith)) ∙ ap (λ k. ramp_of first k) after)
 
-pub one_period_more : (first periods : ℕ) → ramp_of first (256 * periods) ++ ramp_of first 256 ≡ ramp_of first (256 * (periods + 1))
-one_period_more first periods = sym (ramp_on first periods 256) ∙ ap (λ k. ramp_of first k) (omega arith)
+-- a ramp of some length is that of its own
+pub of_its_length : (xs : List ℕ) (first n : ℕ) → xs ≡ ramp_of first n → xs ≡ ramp_of first (length xs)
+of_its_length xs first n is = is ∙ ap (λ k. ramp_of first k) (sym (ap length is ∙ length-map-range_with_len (ramp_byte first) 0 n))
 
-pub last_part : (first len : ℕ) → len % 256 ≤ 256 → ramp_of first (256 * (len / 256)) ++ take (len % 256) (ramp_of first 256) ≡ ramp_of first len
-last_part first len le =
-    ap (λ xs. ramp_of first (256 * (len / 256)) ++ xs) (take-map-range_with_len (ramp_byte first) 0 256 (len % 256) le)
-    ∙ sym (ramp_on first (len / 256) (len % 256)) ∙ ap (λ k. ramp_of first k) (div-add-mod len 256)
+module _ (first n : ℕ) (whole : n % 256 ≡ 0) where
+  periods : n ≡ 256 * (n / 256)
+  periods = omega (arith, whole)
+
+  copied : (count : ℕ) → n * count ≡ 256 * (n / 256 * count)
+  copied count = ap (λ m. m * count) periods ∙ mul_assoc 256 (n / 256) count
+
+  on : (count more : ℕ) → ramp_of first (n * count) ++ ramp_of first more ≡ ramp_of first (n * count + more)
+  on count more =
+      ap (λ m. ramp_of first m ++ ramp_of first more) (copied count) ∙ sym (ramp_on first (n / 256 * count) more) ∙ ap (λ m. ramp_of first (m + more)) (sym (copied count))
+
+  -- one copy more of a front of whole periods
+  pub one_copy_more : (count : ℕ) → ramp_of first (n * count) ++ ramp_of first n ≡ ramp_of first (n * (count + 1))
+  one_copy_more count = on count n ∙ ap (λ m. ramp_of first m) (sym (ap (λ m. n * m) (add-one count) ∙ omega (arith, mul-suc n count)))
+
+  pub last_part : (len : ℕ) → len % n ≤ n → ramp_of first (n * (len / n)) ++ take (len % n) (ramp_of first n) ≡ ramp_of first len
+  last_part len le =
+      ap (λ xs. ramp_of first (n * (len / n)) ++ xs) (take-map-range_with_len (ramp_byte first) 0 n (len % n) le)
+      ∙ on (len / n) (len % n) ∙ ap (λ k. ramp_of first k) (div-add-mod len n)

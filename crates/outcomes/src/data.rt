@@ -1,9 +1,10 @@
 //! The bytes that a script writes or compares.
-ghost use Rattle.std.specs.Prelude.{◌≡◌, ◌<◌, ◌≤◌, ◌^◌, length, map, replicate, slice_index, take, true, None, IfOk};
+ghost use Rattle.std.specs.Prelude.{◌≡◌, ◌<◌, ◌≤◌, ◌^◌, ◌%◌, length, map, replicate, slice_index, take, true, None, IfOk};
 ghost use Rattle.std.specs.List.{range_with_len};
 ghost use Rattle.script_lang.specs.Ranges.{FitsData};
 ghost use Rattle.outcomes.specs.Data.{length_of, bytes_of, ramp_byte as byte_of_ramp, Repeats, first_difference as first_of};
 
+use crate::comparing::are_same_bytes;
 use plfs_types::{Block, Bytes, NoMemory};
 use script_lang::Data;
 use std::alloc::{AllocError, Global};
@@ -33,23 +34,42 @@ fn ramp_byte(first: u8, j: usize) -> u8
 fn period(alloc: Global, first: u8) -> Result<Vec<u8>, AllocError>
     ensures { IfOk result (λ bytes. bytes.items ≡ map (byte_of_ramp first) (range_with_len 0 256)) }
 {
-    let mut bytes = Vec::new(alloc);
+    let mut bytes = Vec::with_capacity(alloc, PERIOD)?;
     for j in 0..PERIOD {
         bytes.push(ramp_byte(first, j))?;
     }
     Ok(bytes)
 }
 
-/// The bytes of a ramp. They are copied period by period, since one by one takes many times as long.
+/// The bytes of a ramp, copied from its front, since one by one takes many times as long. The front has whole periods.
+fn ramp_by(alloc: Global, len: usize, first: u8, front: &[u8]) -> Result<Vec<u8>, AllocError>
+    requires some { 0 < length front.now }
+    requires whole { length front.now % 256 ≡ 0 }
+    requires begins { front.now ≡ map (byte_of_ramp first) (range_with_len 0 (length front.now)) }
+    ensures { IfOk result (λ bytes. bytes.items ≡ map (byte_of_ramp first) (range_with_len 0 len)) }
+{
+    let mut bytes = Vec::with_capacity(alloc, len)?;
+    for _copy in 0..len / front.len() {
+        bytes.extend_from_slice(front)?;
+    }
+    bytes.extend_from_slice(&front[..len % front.len()])?;
+    Ok(bytes)
+}
+
+/// How many bytes of a long ramp are copied at a time.
+const FRONT: usize = 4096;
+
+/// The bytes of a ramp.
 fn ramp(alloc: Global, len: usize, first: u8) -> Result<Bytes, NoMemory>
     ensures { IfOk result (λ bytes. bytes ≡ map (byte_of_ramp first) (range_with_len 0 len)) }
 {
     let period = period(alloc, first)?;
-    let mut bytes = Vec::with_capacity(alloc, len)?;
-    for _whole in 0..len / PERIOD {
-        bytes.extend_from_slice(period.as_slice())?;
+    if len <= FRONT {
+        let bytes = ramp_by(alloc, len, first, period.as_slice())?;
+        return Ok(Bytes::from_vec(bytes));
     }
-    bytes.extend_from_slice(&period.as_slice()[..len % PERIOD])?;
+    let front = ramp_by(alloc, FRONT, first, period.as_slice())?;
+    let bytes = ramp_by(alloc, len, first, front.as_slice())?;
     Ok(Bytes::from_vec(bytes))
 }
 
@@ -118,7 +138,7 @@ fn begins_with(found: &[u8], wanted: &[u8]) -> bool
         return false;
     }
     let beginning = &found[..wanted.len()];
-    beginning == wanted
+    are_same_bytes(beginning, wanted)
 }
 
 /// Whether so many bytes were read, each the one that stands `period` places before it.
@@ -134,7 +154,7 @@ fn repeats(found: &[u8], len: u64, period: usize) -> bool
     }
     let later = &found[period..len];
     let earlier = &found[..len - period];
-    later == earlier
+    are_same_bytes(later, earlier)
 }
 
 /// Whether what was read begins with so many times this byte.

@@ -4,6 +4,7 @@
 //! bytes of data that a script writes or compares. It stands on the results of the machines and on the script's lines.
 #![tactic(auto)]
 
+mod comparing;
 mod counts;
 mod data;
 mod lines;

@@ -1,5 +1,5 @@
 //! The files of a folder whose bytes are put: which they are, and how they are read.
-ghost use Rattle.std.specs.Prelude.{◌≡◌};
+ghost use Rattle.std.specs.Prelude.{◌≡◌, ◌⊎◌, ◌↔◌, IsTrue};
 ghost use Rattle.std.specs.Io.{ReadsAtMost};
 
 use copy_program::Named;
@@ -163,7 +163,9 @@ pub struct Entry {
 }
 
 // Whether a link at which the system ends so leads to nothing.
-fn leads_nowhere(kind: ErrorKind) -> bool {
+fn leads_nowhere(kind: ErrorKind) -> bool
+    ensures { IsTrue result ↔ ((kind ≡ ErrorKind.NotFound) ⊎ (kind ≡ ErrorKind.NotADirectory) ⊎ (kind ≡ ErrorKind.FilesystemLoop) ⊎ (kind ≡ ErrorKind.InvalidFilename) ⊎ (kind ≡ ErrorKind.PermissionDenied)) }
+{
     matches!(
         kind,
         ErrorKind::NotFound

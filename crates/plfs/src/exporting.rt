@@ -2,17 +2,20 @@
 //!
 //! Each is filled under a name that none of them has, and gets its own where it has all its bytes. So what stands under a name is whole,
 //! also after a kill.
-ghost use Rattle.std.specs.Prelude.{◌≤◌, length};
+ghost use Rattle.std.specs.Prelude.{◌≡◌, ◌≢◌, ◌≤◌, ◌↔◌, IsErr, IsTrue, None, Ok, [], false, length, true};
+ghost use Rattle.std.specs.IoError.{error_kind};
+ghost use Rattle.std.specs.Str.{IsUtf8};
 ghost use Rattle.edge_io.specs.Sink.{Takes, taking_over};
+ghost use Rattle.system_edge.specs.Telling.{tells_damage};
 
 use crate::serve;
 use crate::task::{Folders, Task};
 use crate::telling::{CURE, starved, usage};
 use edge_io::{Failed, Sink, StdSink, SystemClock};
 use export_program::{ExportCommand, Shelf, Unmade, export};
-use plfs_types::{LogicalName, Word};
+use plfs_types::{LogicalName, NoMemory, Word};
 use program_ends::Ended;
-use std::alloc::Global;
+use std::alloc::{AllocError, Global};
 use std::cell::RefCell;
 use std::fs::{self, File};
 use std::io::{self, ErrorKind, Write};
@@ -45,6 +48,30 @@ struct NewFile {
 fn tell(rt: &HostRuntime, path: &str, what: &str, error: io::Error) {
     let path = Spelled(path);
     let _ = eprintln!(rt; "plfs: {path}: {what}: {error}");
+}
+
+// Why a file isn't made, of which the system said this. Where memory was had, it is said.
+fn unmade(rt: &HostRuntime, path: &str, error: io::Error) -> Unmade
+    ensures starved { error_kind error ≡ ErrorKind.OutOfMemory → result ≡ Unmade.NoMemory }
+    ensures failed { error_kind error ≢ ErrorKind.OutOfMemory → result ≡ Unmade.Failed }
+{
+    if error.kind() == ErrorKind::OutOfMemory {
+        return Unmade::NoMemory;
+    }
+    tell(rt, path, "open", error);
+    Unmade::Failed
+}
+
+// What comes of a file or its name that isn't kept, since the system said this. Where memory was had, it is said.
+fn unkept(rt: &HostRuntime, path: &str, what: &str, error: io::Error) -> Result<bool, NoMemory>
+    ensures starved { error_kind error ≡ ErrorKind.OutOfMemory → IsErr result }
+    ensures failed { error_kind error ≢ ErrorKind.OutOfMemory → result ≡ Ok false }
+{
+    if error.kind() == ErrorKind::OutOfMemory {
+        return Err(NoMemory);
+    }
+    tell(rt, path, what, error);
+    Ok(false)
 }
 
 impl Sink for NewFile {
@@ -80,7 +107,7 @@ struct FolderShelf<'a> {
 }
 
 // The path of an item of this name.
-fn path_in(alloc: Global, folder: &Word, name: &str) -> io::Result<String> {
+fn path_in(alloc: Global, folder: &Word, name: &str) -> Result<String, AllocError> {
     let mut path = String::from_str(alloc, folder.as_str())?;
     path.push_str("/")?;
     path.push_str(name)?;
@@ -89,7 +116,7 @@ fn path_in(alloc: Global, folder: &Word, name: &str) -> io::Result<String> {
 
 impl<'a> FolderShelf<'a> {
     // The folder, and whether files that stand there are written over.
-    fn new(rt: HostRuntime, folder: &'a Word, over: bool) -> io::Result<FolderShelf<'a>> {
+    fn new(rt: HostRuntime, folder: &'a Word, over: bool) -> Result<FolderShelf<'a>, AllocError> {
         let filled = path_in(rt.alloc(), folder, FILLED)?;
         Ok(FolderShelf {
             rt,
@@ -109,10 +136,7 @@ impl<'a> FolderShelf<'a> {
             }
             Ok(_) => Ok(()),
             Err(error) if error.kind() == ErrorKind::NotFound => Ok(()),
-            Err(error) => {
-                tell(&self.rt, path, "open", error);
-                Err(Unmade::Failed)
-            }
+            Err(error) => Err(unmade(&self.rt, path, error)),
         }
     }
 
@@ -141,10 +165,7 @@ impl<'a> FolderShelf<'a> {
                 faults: 0,
                 stalls: 0,
             }),
-            Err(error) => {
-                tell(&self.rt, path.as_str(), "open", error);
-                Err(Unmade::Failed)
-            }
+            Err(error) => Err(unmade(&self.rt, path.as_str(), error)),
         }
     }
 
@@ -154,26 +175,19 @@ impl<'a> FolderShelf<'a> {
         let name = str::from_utf8(name.bytes()).unwrap_or("");
         match path_in(self.rt.alloc(), self.folder, name) {
             Ok(path) => self.make_at(path),
-            Err(error) => {
-                tell(&self.rt, self.folder.as_str(), "open", error);
-                Err(Unmade::Failed)
-            }
+            Err(_) => Err(Unmade::NoMemory),
         }
     }
 
-    // Gives the file its own name, where all of its bytes are there for good.
-    fn keep_new(&self, new: &NewFile) -> bool {
+    // Gives the file its own name, where all of its bytes are there for good. Whether it could.
+    fn keep_new(&self, new: &NewFile) -> Result<bool, NoMemory> {
         let path = new.path.as_str();
         if let Err(error) = new.file.sync_all() {
-            tell(&self.rt, path, "sync", error);
-            return false;
+            return unkept(&self.rt, path, "sync", error);
         }
         match fs::rename(&self.rt, self.filled.as_str(), path) {
-            Ok(()) => true,
-            Err(error) => {
-                tell(&self.rt, path, "rename", error);
-                false
-            }
+            Ok(()) => Ok(true),
+            Err(error) => unkept(&self.rt, path, "rename", error),
         }
     }
 
@@ -185,17 +199,15 @@ impl<'a> FolderShelf<'a> {
     }
 
     // Makes the names of the files last. Whether it could.
-    fn sync(&self) -> bool {
-        let end = match File::open(&self.rt, self.folder.as_str()) {
-            Ok(folder) => folder.sync_all(),
+    fn sync(&self) -> Result<bool, NoMemory> {
+        let folder = self.folder.as_str();
+        let end = match File::open(&self.rt, folder) {
+            Ok(opened) => opened.sync_all(),
             Err(error) => Err(error),
         };
         match end {
-            Ok(()) => true,
-            Err(error) => {
-                tell(&self.rt, self.folder.as_str(), "sync", error);
-                false
-            }
+            Ok(()) => Ok(true),
+            Err(error) => unkept(&self.rt, folder, "sync", error),
         }
     }
 }
@@ -209,12 +221,12 @@ impl<'a> Shelf<NewFile> for FolderShelf<'a> {
         self.make_named(name)
     }
 
-    fn keep(&mut self, _name: LogicalName, file: NewFile) -> bool {
-        let is_kept = self.keep_new(&file);
-        if !is_kept {
+    fn keep(&mut self, _name: LogicalName, file: NewFile) -> Result<bool, NoMemory> {
+        let end = self.keep_new(&file);
+        if !matches!(end, Ok(true)) {
             self.remove(file.path.as_str());
         }
-        is_kept
+        end
     }
 
     fn discard(&mut self, file: NewFile) {
@@ -303,7 +315,11 @@ pub fn export_files(
         store,
         SystemClock::new(*rt),
     );
-    let least = if shelf.sync() { 0 } else { 6 };
+    let least = match shelf.sync() {
+        Ok(true) => 0,
+        Ok(false) => 6,
+        Err(NoMemory) => 3,
+    };
     Ended {
         store,
         status: status.max(least),
@@ -311,7 +327,12 @@ pub fn export_files(
 }
 
 /// Whether it was said why an export ended so, as it did: of each file that failed or is damaged it was.
-pub fn tells_each(status: u8, said: &Said) -> bool {
+pub fn tells_each(status: u8, said: &Said) -> bool
+    ensures unwritten { status ≡ 6 → IsTrue result ↔ (said.now.error ≡ None) }
+    ensures undamaged { status ≡ 7 → tells_damage said.now ≡ false → result ≡ true }
+    ensures damaged { status ≡ 7 → tells_damage said.now ≡ true → IsUtf8 said.now.line.items → said.now.line.items ≢ [] → result ≡ false }
+    ensures others { status ≢ 6 → status ≢ 7 → result ≡ false }
+{
     match status {
         6 => said.error.is_none(),
         7 => said.damage().is_empty(),
@@ -331,7 +352,7 @@ fn tell_unhad(rt: &HostRuntime, folder: &Word, why: Denial) -> ExitCode {
 
 /// Writes all files out into a folder, where the words of `plfs_copy` ask for that. The folder is locked before ROOT.
 #[inline(never)]
-pub fn obey_export<H: Threads + Wait + Sync>(
+pub fn obey_export<H: Threads + Wait + Sync + Copy + Send + 'static>(
     handle: &H,
     rt: HostRuntime,
     root: &Word,

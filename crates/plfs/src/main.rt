@@ -86,7 +86,7 @@ fn input_of(rt: &HostRuntime, command: &Command) -> io::Result<HeldInput> {
 
 // Does what the words of `plfs` ask for.
 #[inline(never)]
-fn obey<H: Threads + Wait + Sync>(
+fn obey<H: Threads + Wait + Sync + Copy + Send + 'static>(
     handle: &H,
     rt: HostRuntime,
     root: &Word,
@@ -116,7 +116,7 @@ fn obey<H: Threads + Wait + Sync>(
 
 // Drains a file to a second folder, where the words ask for that. Its folder is locked before those that are drained.
 #[inline(never)]
-fn obey_drain<H: Threads + Wait + Sync>(
+fn obey_drain<H: Threads + Wait + Sync + Copy + Send + 'static>(
     handle: &H,
     rt: HostRuntime,
     root: &Word,
@@ -152,7 +152,7 @@ fn obey_drain<H: Threads + Wait + Sync>(
 // Does what the words of `plfs_copy` ask for. Without standard input nothing is put, and neither where one of the files in its place
 // can't be opened or read.
 #[inline(never)]
-fn obey_copy<H: Threads + Wait + Sync>(
+fn obey_copy<H: Threads + Wait + Sync + Copy + Send + 'static>(
     handle: &H,
     rt: HostRuntime,
     root: &Word,
@@ -207,7 +207,7 @@ fn obey_copy<H: Threads + Wait + Sync>(
 
 // Puts the files of a folder, where the words of `plfs_copy` ask for that, or writes all files out.
 #[inline(never)]
-fn obey_import<H: Threads + Wait + Sync>(
+fn obey_import<H: Threads + Wait + Sync + Copy + Send + 'static>(
     handle: &H,
     rt: HostRuntime,
     root: &Word,
@@ -241,7 +241,7 @@ fn obey_import<H: Threads + Wait + Sync>(
 
 // Does what the words of `plfs_check` ask for.
 #[inline(never)]
-fn obey_check<H: Threads + Wait + Sync>(
+fn obey_check<H: Threads + Wait + Sync + Copy + Send + 'static>(
     handle: &H,
     rt: HostRuntime,
     root: &Word,
@@ -258,7 +258,7 @@ fn obey_check<H: Threads + Wait + Sync>(
 }
 
 // Locks the folders, and runs the command over them.
-fn serve<H: Threads + Wait + Sync>(
+fn serve<H: Threads + Wait + Sync + Copy + Send + 'static>(
     handle: &H,
     rt: HostRuntime,
     root: &Word,
@@ -283,7 +283,7 @@ fn serve<H: Threads + Wait + Sync>(
 
 // Runs the command over one folder.
 #[inline(never)]
-fn serve_one<H: Threads + Wait + Sync>(
+fn serve_one<H: Threads + Wait + Sync + Copy + Send + 'static>(
     handle: &H,
     rt: HostRuntime,
     root: &Word,
@@ -300,7 +300,7 @@ fn serve_one<H: Threads + Wait + Sync>(
 
 // Runs the command over several folders as one store.
 #[inline(never)]
-fn serve_several<H: Threads + Wait + Sync>(
+fn serve_several<H: Threads + Wait + Sync + Copy + Send + 'static>(
     handle: &H,
     rt: HostRuntime,
     root: &Word,

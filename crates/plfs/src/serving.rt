@@ -5,60 +5,40 @@ use crate::serve;
 use crate::task::{Folders, Task};
 use crate::telling::{starved, tell_denied, usage};
 use edge_io::{Sink, StdSink, StdSource, SystemClock};
+use frame_streams::SourceFrames;
 use plfs_types::Word;
 use program_ends::Ended;
 use serve_program::{ServeCommand, serve_all};
-use shared_door::{Answers, Board, Requests, open_door};
+use shared_door::{Answers, Board, Hearing, Requests, input_frames, open_door};
 use shared_frames::Exchange;
 use std::cell::RefCell;
-use std::io::{self, Read};
+use std::io;
 use std::process::ExitCode;
 use std::sync::Wait;
 use std::thread::Threads;
 use system_edge::{MOST_FOLDERS, Program, Spelled, Standard, lock_folders};
 
-/// Requests, beside which stands why its reading failed last.
-#[derive(Drop)]
-struct Hearing<'a, R> {
-    reader: R,
-    error: &'a RefCell<Option<io::Error>>,
-}
-
-impl<'a, R: Read> Read for Hearing<'a, R> {
-    ghost remaining = { λ hearing. R.remaining hearing.reader };
-
-    fn read(&mut self, buf: &mut [u8]) -> io::Result<usize> {
-        let end = self.reader.read(buf);
-        if let Err(error) = &end {
-            if let Ok(mut last) = self.error.try_borrow_mut() {
-                *last = Some(*error);
-            }
-        }
-        end
-    }
-}
-
 /// Answers the requests of standard input over the store, whose writers are of this host.
 #[inline(never)]
-pub fn serve_requests<O: Sink>(
+pub fn serve_requests<H: Threads + Wait + Copy + Send + 'static, O: Sink>(
+    handle: &H,
     rt: &HostRuntime,
     host: u32,
     error: &RefCell<Option<io::Error>>,
     sink: &mut O,
     store: Folders,
 ) -> Ended<Folders> {
-    let mut source = StdSource::new(Hearing {
-        reader: rt.stdin(),
-        error,
-    });
-    serve_all(
+    let mut frames = input_frames(*handle, *rt, error);
+    let ended = serve_all(
         rt.alloc(),
         host,
-        &mut source,
+        &mut frames,
         sink,
         store,
         SystemClock::new(*rt),
-    )
+    );
+    frames.end();
+    ended
 }
 
 /// Answers the requests of the processes of this board over the store, whose writers are of this host.
@@ -86,11 +66,13 @@ pub fn serve_processes<H: Wait>(
         board,
         exchange,
     });
-    let mut source = StdSource::new(Hearing { reader, error });
+    let mut frames = SourceFrames {
+        source: StdSource::new(Hearing { reader, error }),
+    };
     let ended = serve_all(
         alloc,
         host,
-        &mut source,
+        &mut frames,
         &mut sink,
         store,
         SystemClock::new(*rt),

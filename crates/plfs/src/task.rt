@@ -251,7 +251,7 @@ fn copy_heard<R: Read + Drop, O: Sink>(
 }
 
 /// Runs the command over the store, its input, standard output and the system's clock.
-pub fn run<H: Threads + Wait + Sync>(
+pub fn run<H: Threads + Wait + Sync + Copy + Send + 'static>(
     handle: &H,
     rt: &HostRuntime,
     task: &Task<'_>,
@@ -316,7 +316,9 @@ pub fn run<H: Threads + Wait + Sync>(
             target = left;
             ended
         }
-        Task::Serve { host, board: None } => { serve_requests(rt, *host, &error, &mut sink, store) }
+        Task::Serve { host, board: None } => {
+            serve_requests(handle, rt, *host, &error, &mut sink, store)
+        }
         Task::Serve {
             host,
             board: Some(board),

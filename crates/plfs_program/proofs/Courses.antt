@@ -8,6 +8,7 @@ pub mod Lines
 pub mod MigrateCourses
 pub mod PackCourses
 pub mod Plain
+pub mod PlainCats
 pub mod PlainMounts
 pub mod PlainRuns
 pub mod SmallCourses

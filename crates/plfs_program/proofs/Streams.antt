@@ -5,5 +5,6 @@ pub mod InputLemmas
 pub mod Inputs
 pub mod PackInputs
 pub mod Pieces
+pub mod Slices
 pub mod SmallTexts
 pub mod Words

@@ -9,6 +9,7 @@ pub mod Input
 pub mod Lines
 pub mod Migrating
 pub mod Packing
+pub mod PlainCat
 pub mod Plainly
 pub mod Planned
 pub mod Playing

@@ -5,7 +5,7 @@ use Rattle.store_api.specs.declared.tree.Tree.{Tree}
 use Rattle.store_api.specs.Acts.{Stored}
 use Rattle.command_line.specs.Commands.{IsCommand}
 use Rattle.command_line.specs.declared.commands.Command.{Command}
-use Rattle.command_line.specs.declared.commands.Command.TheVariants.{Play}
+use Rattle.command_line.specs.declared.commands.Command.TheVariants.{Cat, Play}
 use Rattle.script_lang.specs.Grammar.{IsScript}
 use Rattle.script_lang.specs.declared.line.Line.{Line}
 use Rattle.script_lang.specs.declared.line.Outcome.TheVariants.{Refused}
@@ -19,6 +19,7 @@ use Rattle.program_ends.specs.Output.{IsPrinted}
 use Rattle.program_ends.specs.Reported.{line_zero}
 use Rattle.program_ends.specs.SoundTrees.{TellsSoundTree}
 use Rattle.plfs_program.specs.Commands.{IsPlanned}
+use Rattle.plfs_program.specs.PlainCat.{IsWrittenPlainly}
 use Rattle.plfs_program.specs.Playing.{IsPlayedAs}
 use Rattle.plfs_program.specs.Showing.{Shows, all_lines, shows_of}
 use Rattle.plfs_program.specs.Ways.{by_turns}
@@ -44,3 +45,8 @@ pub record PrintsPlainly (script : Script) (shows : Shows) (e : Ends) (status : 
   pub sound : TellsSoundTree e.stored → SaysOverSound script e.times e.stored lines are.after
   pub printed : IsPrinted (shows.text lines) e.taking e.taking_after
   pub decide : status ≡ status_of (shows.decide lines)
+
+-- What is shown of a script that the words ask for is what a plain machine says of it, and a file that they ask for is written out as a plain machine has it.
+pub record GoesPlainly (words : List (List ℕ)) (given : Given) (e : Ends) (status : ℕ) : Type 0 where
+  pub plays : (script : Script) (shows : Shows) → AskToPlay words given script shows → PrintsPlainly script shows e status
+  pub cats : (name : List ℕ) → IsCommand words (Cat name) → IsWrittenPlainly name e status

@@ -5,16 +5,15 @@ ghost use Rattle.command_line.specs.Commands.{IsCommand};
 ghost use Rattle.command_line.specs.declared.commands.Command.TheVariants.{Run};
 ghost use Rattle.script_lang.specs.Grammar.{IsScript};
 ghost use Rattle.script_lang.specs.Ranges.{FitsScript};
-ghost use Rattle.script_lang.specs.declared.script.Script.{Script as Played};
 ghost use Rattle.run_core.specs.Conditions.{IsPlayable};
 ghost use Rattle.plfs_program.specs.Commands.{IsServed};
 ghost use Rattle.plfs_program.specs.Complete.{IsAsked, HadNoTrouble};
 ghost use Rattle.program_ends.specs.Outcomes.{IsDone};
 ghost use Rattle.plfs_program.specs.Course.{Course, InputCourse};
 ghost use Rattle.program_ends.specs.Ends.{ends_of};
-ghost use Rattle.plfs_program.specs.Plainly.{AskToPlay, PrintsPlainly};
+ghost use Rattle.plfs_program.specs.Plainly.{GoesPlainly};
 ghost use Rattle.plfs_program.specs.Playing.{PlayCourse};
-ghost use Rattle.plfs_program.specs.Showing.{Shows, all_lines};
+ghost use Rattle.plfs_program.specs.Showing.{all_lines};
 ghost use Rattle.program_ends.specs.SoundTrees.{TellsSoundTree, LeavesSoundTree};
 ghost use Rattle.plfs_program.specs.UnitTrees.{AskForUnits};
 ghost use Rattle.plfs_program.specs.Ways.{on_threads};
@@ -181,7 +180,7 @@ pub fn plfs<
     ensures undamaged { TellsSoundTree (S.stored store) → AskForUnits words.now (S.stored store) → result.status ≢ 7 }
     ensures sound { TellsSoundTree (S.stored store) → LeavesSoundTree (option_map S.stored result.store) }
     ensures complete { TellsSoundTree (S.stored store) → AskForUnits words.now (S.stored store) → IsAsked IsServed words.now (I.given input.old) (I.given input.new) → HadNoTrouble (I.given input.old) (I.given input.new) (ends_of (C.times clock) (O.taking out.old) (O.taking out.new) (S.stored store) (option_map S.stored result.store)) → IsDone result.status }
-    ensures plain { (script : Played) (shows : Shows) → AskToPlay words.now (I.given input.old) script shows → HadNoTrouble (I.given input.old) (I.given input.new) (ends_of (C.times clock) (O.taking out.old) (O.taking out.new) (S.stored store) (option_map S.stored result.store)) → result.status ≢ 3 → PrintsPlainly script shows (ends_of (C.times clock) (O.taking out.old) (O.taking out.new) (S.stored store) (option_map S.stored result.store)) result.status }
+    ensures plain { HadNoTrouble (I.given input.old) (I.given input.new) (ends_of (C.times clock) (O.taking out.old) (O.taking out.new) (S.stored store) (option_map S.stored result.store)) → result.status ≢ 3 → GoesPlainly words.now (I.given input.old) (ends_of (C.times clock) (O.taking out.old) (O.taking out.new) (S.stored store) (option_map S.stored result.store)) result.status }
 {
     a_failed_mounting_leaves_a_sound_tree();
     scripts_are_told_apart();

@@ -9,17 +9,16 @@ ghost use Rattle.plfs_program.specs.Commands.{IsBuiltCommand, IsPlanned, FitsCom
 ghost use Rattle.script_lang.specs.Faults.{HasFault};
 ghost use Rattle.script_lang.specs.Grammar.{IsScript};
 ghost use Rattle.script_lang.specs.Ranges.{FitsScript};
-ghost use Rattle.script_lang.specs.declared.script.Script.{Script as Played};
 ghost use Rattle.run_core.specs.Conditions.{IsPlayable};
 ghost use Rattle.plfs_program.specs.Complete.{IsAsked, HadNoTrouble};
 ghost use Rattle.program_ends.specs.Outcomes.{IsDone};
 ghost use Rattle.plfs_program.specs.Course.{Course, InputCourse};
-ghost use Rattle.plfs_program.specs.Plainly.{AskToPlay, PrintsPlainly};
+ghost use Rattle.plfs_program.specs.Plainly.{GoesPlainly};
 ghost use Rattle.plfs_program.specs.Playing.{PlayCourse};
 ghost use Rattle.plfs_program.specs.Repeated.{IsRepeatable};
 ghost use Rattle.program_ends.specs.Ends.{ends_of, IsSaid};
 ghost use Rattle.program_ends.specs.Output.{IsPrinted, IsCutOff};
-ghost use Rattle.plfs_program.specs.Showing.{Shows, shows_of};
+ghost use Rattle.plfs_program.specs.Showing.{shows_of};
 ghost use Rattle.program_ends.specs.SoundTrees.{TellsSoundTree, LeavesSoundTree};
 ghost use Rattle.plfs_program.specs.UnitTrees.{AskForUnits};
 ghost use Rattle.plfs_program.specs.Ways.{Way, by_turns};
@@ -353,7 +352,7 @@ fn follow<S: Store + Drop, C: Clock + Drop, I: Input, O: Sink>(
 /// Where no such count has risen and memory sufficed, what is shown of a script's lines is printed whole. If it has no `turn` and no `stop` lines, these
 /// are the lines that a plain machine says, which takes each statement in one step, as they are written. It begins with what the store has. Where the store
 /// told a sound tree there is such a machine, unless no mark is left, which line 0 says alone. In the tree that is left each writer that the machine has at the
-/// end has its droppings.
+/// end has its droppings. `cat` then prints the bytes of the machine's file, all of them and in their order, or `refused no-file` where that has none of the name.
 /// Then each further run of these words that begins on such a store, with such a clock and before the same input, prints the same, with the same status, and
 /// leaves the same store.
 pub fn single<S: Store + Drop, C: Clock + Drop, I: Input, O: Sink>(
@@ -368,7 +367,7 @@ pub fn single<S: Store + Drop, C: Clock + Drop, I: Input, O: Sink>(
     ensures undamaged { TellsSoundTree (S.stored store) → AskForUnits words.now (S.stored store) → result.status ≢ 7 }
     ensures sound { TellsSoundTree (S.stored store) → LeavesSoundTree (option_map S.stored result.store) }
     ensures complete { TellsSoundTree (S.stored store) → AskForUnits words.now (S.stored store) → IsAsked IsBuiltCommand words.now (I.given input.old) (I.given input.new) → HadNoTrouble (I.given input.old) (I.given input.new) (ends_of (C.times clock) (O.taking out.old) (O.taking out.new) (S.stored store) (option_map S.stored result.store)) → IsDone result.status }
-    ensures plain { (script : Played) (shows : Shows) → AskToPlay words.now (I.given input.old) script shows → HadNoTrouble (I.given input.old) (I.given input.new) (ends_of (C.times clock) (O.taking out.old) (O.taking out.new) (S.stored store) (option_map S.stored result.store)) → result.status ≢ 3 → PrintsPlainly script shows (ends_of (C.times clock) (O.taking out.old) (O.taking out.new) (S.stored store) (option_map S.stored result.store)) result.status }
+    ensures plain { HadNoTrouble (I.given input.old) (I.given input.new) (ends_of (C.times clock) (O.taking out.old) (O.taking out.new) (S.stored store) (option_map S.stored result.store)) → result.status ≢ 3 → GoesPlainly words.now (I.given input.old) (ends_of (C.times clock) (O.taking out.old) (O.taking out.new) (S.stored store) (option_map S.stored result.store)) result.status }
     ensures repeatable { IsRepeatable words.now (I.given input.old) (I.given input.new) (ends_of (C.times clock) (O.taking out.old) (O.taking out.new) (S.stored store) (option_map S.stored result.store)) result.status }
 {
     a_failed_mounting_leaves_a_sound_tree();

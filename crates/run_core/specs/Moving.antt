@@ -15,7 +15,7 @@ use Rattle.run_core.specs.Written.{is_greeting}
 use Rattle.run_core.specs.Leading.{Leads}
 use Rattle.mount_model.specs.History.{AreBy}
 use Rattle.mount_core.specs.Memory.{HadMemory}
-use Rattle.run_core.specs.Players.{course_left, IsFit, lines_left}
+use Rattle.run_core.specs.Players.{course_left, IsFit, lines_left, waiting_in}
 
 -- within a turn it comes so far: what a turn does from there on, with these calls and lines before it, a turn does from the first
 abbrev pub Comes : ℕ → Course → List Event → List Line → Course → Type 0
@@ -42,7 +42,7 @@ pub record Advances (Change : ℕ → Course → List Event → List Line → Co
 -- it has no statement in progress, and none to begin in this phase
 pub record IsDone (player : Player) : Type 0 where
   pub idle : IsIdle (progress_of player.actor)
-  pub none : player.queue.items ≡ []
+  pub none : waiting_in player ≡ []
 
 -- it began its next statement, where it has one
 pub record Begins (old new : Player) : Type 0 where

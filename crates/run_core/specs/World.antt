@@ -17,7 +17,7 @@ use Rattle.script_lang.specs.declared.script.ActorDecl.{ActorDecl}
 use Rattle.run_core.specs.Cast.{cast_from}
 use Rattle.run_core.specs.Course.{own}
 use Rattle.run_core.specs.Moving.{Passes}
-use Rattle.run_core.specs.Players.{playing, resting, IsFit, lines_left, Stands}
+use Rattle.run_core.specs.Players.{playing, resting, IsFit, lines_left, Stands, waiting_in}
 
 -- each player stands so at its place in this state, where these statements are not passed in writing
 abbrev pub AllStand : List Numbered → List Player → State → Type 0
@@ -70,7 +70,7 @@ pub record Tells (of : List ℕ) (left : List Numbered) (lines_old : List Line) 
 
 -- the player has these statements of the phase behind its others, and is as before
 pub record IsDealt (statements : List Numbered) (old new : Player) : Type 0 where
-  pub queue : new.queue.items ≡ old.queue.items ++ statements
+  pub queue : waiting_in new ≡ waiting_in old ++ statements
   pub number : new.number ≡ old.number
   pub progress : progress_of new.actor ≡ progress_of old.actor
   pub ahead : new.ahead.items ≡ old.ahead.items

@@ -16,7 +16,7 @@ use store_api::Store;
 /// The line of the next statement of the player at this place.
 fn pass<S: Store + Drop, C: Clock + Drop>(
     mount: &mut Mount<S, C>,
-    players: &mut [Player],
+    players: &mut [Player<'_>],
     place: usize,
     lines: &mut Lines,
 ) -> Result<(), NoMemory>
@@ -35,7 +35,7 @@ fn pass<S: Store + Drop, C: Clock + Drop>(
 /// The lines of the statements in written order, those that are unfinished carried to their ends.
 pub(crate) fn finish<S: Store + Drop, C: Clock + Drop>(
     mount: &mut Mount<S, C>,
-    players: &mut [Player],
+    players: &mut [Player<'_>],
     statements: &[Numbered],
     lines: &mut Lines,
 ) -> Result<(), NoMemory>

@@ -11,34 +11,26 @@ use edge_io::Clock;
 use mount_core::Mount;
 use plfs_types::NoMemory;
 use script_lang::{Lines, Numbered, Phase};
-use std::alloc::Global;
 use store_api::Store;
 
-/// Gives each player its own of these statements, as copies.
-fn deal(alloc: Global, players: &mut [Player], statements: &[Numbered]) -> Result<(), NoMemory>
+/// Gives each player its own of these statements.
+fn deal<'a>(players: &mut [Player<'a>], statements: &'a [Numbered]) -> Result<(), NoMemory>
     requires { All (λ statement. statement.actor < length players.old) statements.now }
-    ensures { OnOk result (Dealt statements.now players.old players.new) }
+    ensures { OnOk result (Dealt statements.entry.now players.old players.new) }
 {
     for statement in statements {
-        let made = statement.statement.copy(alloc)?;
-        let copy = Numbered {
-            line: statement.line,
-            actor: statement.actor,
-            statement: made,
-        };
         let place = statement.actor as usize;
         let player = &mut players[place];
-        player.give(copy)?;
+        player.give(statement)?;
     }
     Ok(())
 }
 
 /// Plays a phase: the written turns, and then what they left unfinished.
-pub(crate) fn play_phase<S: Store + Drop, C: Clock + Drop>(
-    alloc: Global,
+pub(crate) fn play_phase<'a, S: Store + Drop, C: Clock + Drop>(
     mount: &mut Mount<S, C>,
-    players: &mut [Player],
-    phase: &Phase,
+    players: &mut [Player<'a>],
+    phase: &'a Phase,
     lines: &mut Lines,
 ) -> Result<(), NoMemory>
     requires fits { FitsPhase (length players.old) phase.now }
@@ -47,7 +39,7 @@ pub(crate) fn play_phase<S: Store + Drop, C: Clock + Drop>(
     ensures broken { OnErr result (PhaseIsBroken phase.now players.old mount.old mount.new) }
 {
     let statements = phase.statements.as_slice();
-    deal(alloc, players, statements)?;
+    deal(players, statements)?;
     let turns = phase.turns.as_slice();
     take_turns(mount, players, turns)?;
     finish(mount, players, statements, lines)?;
@@ -55,11 +47,10 @@ pub(crate) fn play_phase<S: Store + Drop, C: Clock + Drop>(
 }
 
 /// Plays the phases, one after the other.
-pub(crate) fn play_all<S: Store + Drop, C: Clock + Drop>(
-    alloc: Global,
+pub(crate) fn play_all<'a, S: Store + Drop, C: Clock + Drop>(
     mount: &mut Mount<S, C>,
-    players: &mut [Player],
-    phases: &[Phase],
+    players: &mut [Player<'a>],
+    phases: &'a [Phase],
     lines: &mut Lines,
 ) -> Result<(), NoMemory>
     requires fits { All (FitsPhase (length players.old)) phases.now }
@@ -69,7 +60,7 @@ pub(crate) fn play_all<S: Store + Drop, C: Clock + Drop>(
     ensures broken { OnErr result (PlayIsBroken phases.now players.old mount.old mount.new) }
 {
     for phase in phases {
-        play_phase(alloc, mount, players, phase, lines)?;
+        play_phase(mount, players, phase, lines)?;
     }
     Ok(())
 }

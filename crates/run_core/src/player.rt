@@ -16,27 +16,30 @@ use store_api::Store;
 
 /// An actor, the number under which it calls, and how far it is in a phase.
 #[derive(Drop)]
-pub(crate) struct Player {
+pub(crate) struct Player<'a> {
+    alloc: Global,
     number: u64,
     actor: Actor,
-    /// Its statements of the phase that are not begun.
-    queue: VecDeque<Numbered>,
+    /// Its statements of the phase that are not begun. Each is copied as it begins.
+    queue: VecDeque<&'a Numbered>,
     /// The lines of its statements that ended ahead of their place in writing.
     ahead: VecDeque<Line>,
 }
 
-impl Player {
+impl<'a> Player<'a> {
     ghost use Rattle.script_lang.specs.Ranges.{FitsActor};
+    ghost use Rattle.run_core.specs.Players.{waiting_in};
 
     /// An actor that has done nothing yet.
-    pub(crate) fn new(alloc: Global, number: u64, declared: ActorDecl) -> Player
+    pub(crate) fn new(alloc: Global, number: u64, declared: ActorDecl) -> Player<'a>
         requires { FitsActor declared }
         ensures number { result.number ≡ number }
         ensures progress { progress_of result.actor ≡ idle (fresh declared.host declared.cap) }
-        ensures queue { result.queue.items ≡ [] }
+        ensures queue { waiting_in result ≡ [] }
         ensures ahead { result.ahead.items ≡ [] }
     {
         Player {
+            alloc,
             number,
             actor: Actor::new(alloc, declared),
             queue: VecDeque::new(alloc),
@@ -45,12 +48,13 @@ impl Player {
     }
 }
 
-impl Player {
+impl<'a> Player<'a> {
     ghost use Rattle.run_core.specs.World.{IsDealt};
+    ghost use Rattle.run_core.specs.Players.{waiting_in};
 
     /// Gives it one statement more of the phase.
-    pub(crate) fn give(&mut self, statement: Numbered) -> Result<(), NoMemory>
-        ensures { OnOk result (IsDealt (statement ∷ []) self.old self.new) }
+    pub(crate) fn give(&mut self, statement: &'a Numbered) -> Result<(), NoMemory>
+        ensures { OnOk result (IsDealt (statement.now ∷ []) self.old self.new) }
     {
         self.queue.push_back(statement)?;
         Ok(())
@@ -60,7 +64,7 @@ impl Player {
     fn put_ahead(&mut self) -> Result<(), NoMemory>
         ensures ahead { OnOk result (self.new.ahead.items ≡ self.old.ahead.items ++ option_to_list (waiting_line (progress_of self.old.actor))) }
         ensures progress { OnOk result (progress_of self.new.actor ≡ line_taken (progress_of self.old.actor)) }
-        ensures queue { OnOk result (self.new.queue.items ≡ self.old.queue.items) }
+        ensures queue { OnOk result (waiting_in self.new ≡ waiting_in self.old) }
         ensures number { OnOk result (self.new.number ≡ self.old.number) }
     {
         if let Some(line) = self.actor.line() {
@@ -70,10 +74,10 @@ impl Player {
     }
 }
 
-impl Player {
+impl<'a> Player<'a> {
     ghost use Rattle.std.specs.Prelude.{◌<◌, length};
     ghost use Rattle.run_core.specs.Broken.{TurnBreaks};
-    ghost use Rattle.run_core.specs.Players.{IsFit, IsMade};
+    ghost use Rattle.run_core.specs.Players.{IsFit, IsMade, waiting_in};
     ghost use Rattle.run_core.specs.Moving.{Advances, Comes, Turns, Begins, IsDone};
 
     /// Goes on with the statement in progress: by a greeting, where one is due, and one call more. Without a further call its line is ahead.
@@ -85,7 +89,7 @@ impl Player {
         ensures called { IfOk result (λ called. called ≡ true → Advances Turns self.old mount.old self.new mount.new) }
         ensures ended { IfOk result (λ called. called ≡ false → Advances Comes self.old mount.old self.new mount.new) }
         ensures idle { IfOk result (λ called. called ≡ false → IsIdle (progress_of self.new.actor)) }
-        ensures queue { OnOk result (self.new.queue.items ≡ self.old.queue.items) }
+        ensures queue { OnOk result (waiting_in self.new ≡ waiting_in self.old) }
         ensures broken { OnErr result (TurnBreaks self.old mount.old mount.new) }
     {
         while let Some(ask) = self.actor.next()? {
@@ -104,20 +108,16 @@ impl Player {
     /// Begins its next statement, and answers whether there was one.
     fn begin_next(&mut self) -> Result<bool, NoMemory>
         requires idle { IsIdle (progress_of self.old.actor) }
-        requires made { All IsMade self.old.queue.items }
+        requires made { All IsMade (waiting_in self.old) }
         ensures begins { OnOk result (Begins self.old self.new) }
-        ensures fewer { IfOk result (λ begun. begun ≡ true → length self.new.queue.items < length self.old.queue.items) }
+        ensures fewer { IfOk result (λ begun. begun ≡ true → length (waiting_in self.new) < length (waiting_in self.old)) }
         ensures none { IfOk result (λ begun. begun ≡ false → IsDone self.new) }
     {
         let Some(next) = self.queue.pop_front() else {
             return Ok(false);
         };
-        let Numbered {
-            line,
-            actor: _,
-            statement,
-        } = next;
-        self.actor.begin(line, statement)?;
+        let statement = next.statement.copy(self.alloc)?;
+        self.actor.begin(next.line, statement)?;
         Ok(true)
     }
 
@@ -142,15 +142,15 @@ impl Player {
     }
 }
 
-impl Player {
+impl<'a> Player<'a> {
     ghost use Rattle.std.specs.Prelude.{◌≤◌};
     ghost use Rattle.run_core.specs.Broken.{PassBreaks};
-    ghost use Rattle.run_core.specs.Players.{IsFit, IsMade, lines_left};
+    ghost use Rattle.run_core.specs.Players.{IsFit, IsMade, lines_left, waiting_in};
     ghost use Rattle.run_core.specs.Moving.{Begins, Passes};
 
     /// Begins its next statement where none is in progress. It has one.
     fn begin_due(&mut self) -> Result<(), NoMemory>
-        requires made { All IsMade self.old.queue.items }
+        requires made { All IsMade (waiting_in self.old) }
         requires some { 1 ≤ lines_left self.old }
         requires none_ahead { self.old.ahead.items ≡ [] }
         ensures begins { OnOk result (Begins self.old self.new) }

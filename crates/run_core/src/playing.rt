@@ -20,7 +20,7 @@ use std::alloc::Global;
 use store_api::Store;
 
 /// The declared actors, which have done nothing yet.
-fn cast_of(alloc: Global, actors: &[ActorDecl]) -> Result<Vec<Player>, NoMemory>
+fn cast_of<'a>(alloc: Global, actors: &[ActorDecl]) -> Result<Vec<Player<'a>>, NoMemory>
     requires { All FitsActor actors.now }
     ensures { IfOk result (λ players. IsCast actors.now players.items) }
 {
@@ -58,6 +58,6 @@ pub fn play<S: Store + Drop, C: Clock + Drop>(
     let mut players = cast_of(alloc, script.actors.as_slice())?;
     let mut lines = Lines::new(alloc);
     let phases = script.phases.as_slice();
-    play_all(alloc, mount, &mut players, phases, &mut lines)?;
+    play_all(mount, &mut players, phases, &mut lines)?;
     Ok(lines)
 }

@@ -16,7 +16,7 @@ use store_api::Store;
 /// One turn of the player at this place. Answers whether it made a call: without one no statement is left.
 fn turn<S: Store + Drop, C: Clock + Drop>(
     mount: &mut Mount<S, C>,
-    players: &mut [Player],
+    players: &mut [Player<'_>],
     place: usize,
 ) -> Result<bool, NoMemory>
     requires there { place < length players.old }
@@ -33,7 +33,7 @@ fn turn<S: Store + Drop, C: Clock + Drop>(
 /// So many turns of one player. A player with no statement left takes none.
 fn turns_of<S: Store + Drop, C: Clock + Drop>(
     mount: &mut Mount<S, C>,
-    players: &mut [Player],
+    players: &mut [Player<'_>],
     turned: Turned,
 ) -> Result<(), NoMemory>
     requires there { turned.actor < length players.old }
@@ -52,7 +52,7 @@ fn turns_of<S: Store + Drop, C: Clock + Drop>(
 /// The turns in the order in which they are written.
 pub(crate) fn take_turns<S: Store + Drop, C: Clock + Drop>(
     mount: &mut Mount<S, C>,
-    players: &mut [Player],
+    players: &mut [Player<'_>],
     turns: &[Turned],
 ) -> Result<(), NoMemory>
     requires there { All (λ turned. turned.actor < length players.old) turns.now }

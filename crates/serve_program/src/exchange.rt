@@ -8,9 +8,9 @@ ghost use Rattle.frame_format.specs.Telling.{no_memory};
 ghost use Rattle.serve_program.specs.Exchange.{HasExchanged, IsTold, StepsOn, StepsSo};
 
 use crate::answering::answer_frame;
-use edge_io::{Clock, Sink, Source};
+use edge_io::{Clock, Sink};
 use frame_format::{Answer, Head};
-use frame_streams::{Arrival, next_frame, write_answer};
+use frame_streams::{Arrival, Frames, write_answer};
 use mount_core::Mount;
 use plfs_types::Bytes;
 use serve_core::Client;
@@ -66,7 +66,7 @@ fn step_on<S: Store + Drop, C: Clock + Drop, O: Sink>(
 }
 
 // Reads a frame and answers it. None where further ones may follow.
-fn step<S: Store + Drop, C: Clock + Drop, I: Source, O: Sink>(
+fn step<S: Store + Drop, C: Clock + Drop, I: Frames, O: Sink>(
     alloc: Global,
     mount: &mut Mount<S, C>,
     clients: &mut [Client],
@@ -79,7 +79,7 @@ fn step<S: Store + Drop, C: Clock + Drop, I: Source, O: Sink>(
     ensures steps { StepsSo clients.old mount.old (I.given input.old) (O.taking out.old) result clients.new mount.new (I.given input.new) (O.taking out.new) }
     ensures fine { IsFine mount.new }
 {
-    let Ok(arrival) = next_frame(alloc, input) else {
+    let Ok(arrival) = input.next(alloc) else {
         return Some(Stop::NoMemory);
     };
     match arrival {
@@ -92,7 +92,7 @@ fn step<S: Store + Drop, C: Clock + Drop, I: Source, O: Sink>(
 }
 
 /// Answers the frames of the source, one after the other, until it ends or something breaks that off.
-pub(crate) fn exchange<S: Store + Drop, C: Clock + Drop, I: Source, O: Sink>(
+pub(crate) fn exchange<S: Store + Drop, C: Clock + Drop, I: Frames, O: Sink>(
     alloc: Global,
     mount: &mut Mount<S, C>,
     clients: &mut [Client],

@@ -11,7 +11,8 @@ ghost use Rattle.serve_program.specs.Words.{actors_on as actors_said};
 use crate::closing::close_all;
 use crate::exchange::{Stop, exchange};
 use crate::words::actors_on;
-use edge_io::{Clock, Sink, Source};
+use edge_io::{Clock, Sink};
+use frame_streams::Frames;
 use mount_core::{Mount, MountTrouble};
 use mount_sound::a_failed_mounting_leaves_a_sound_tree;
 use program_ends::{Ended, ends};
@@ -62,7 +63,7 @@ fn unmounted_status(trouble: MountTrouble) -> u8
 }
 
 // The new clients of these actors are served, and then each closes its writer.
-fn serve_clients<S: Store + Drop, C: Clock + Drop, I: Source, O: Sink>(
+fn serve_clients<S: Store + Drop, C: Clock + Drop, I: Frames, O: Sink>(
     alloc: Global,
     mount: &mut Mount<S, C>,
     actors: &[ActorDecl],
@@ -87,7 +88,7 @@ fn serve_clients<S: Store + Drop, C: Clock + Drop, I: Source, O: Sink>(
 }
 
 // Answers all requests on a mount, and closes what they left open.
-fn serve_mounted<S: Store + Drop, C: Clock + Drop, I: Source, O: Sink>(
+fn serve_mounted<S: Store + Drop, C: Clock + Drop, I: Frames, O: Sink>(
     alloc: Global,
     mount: &mut Mount<S, C>,
     actors: &[ActorDecl],
@@ -107,7 +108,7 @@ fn serve_mounted<S: Store + Drop, C: Clock + Drop, I: Source, O: Sink>(
 }
 
 // Mounts the store for these actors.
-fn serve_actors<S: Store + Drop, C: Clock + Drop, I: Source, O: Sink>(
+fn serve_actors<S: Store + Drop, C: Clock + Drop, I: Frames, O: Sink>(
     alloc: Global,
     actors: &[ActorDecl],
     input: &mut I,
@@ -130,7 +131,7 @@ fn serve_actors<S: Store + Drop, C: Clock + Drop, I: Source, O: Sink>(
 }
 
 // Mounts the store for clients of this host.
-fn serve_host<S: Store + Drop, C: Clock + Drop, I: Source, O: Sink>(
+fn serve_host<S: Store + Drop, C: Clock + Drop, I: Frames, O: Sink>(
     alloc: Global,
     host: u32,
     input: &mut I,
@@ -153,7 +154,7 @@ fn serve_host<S: Store + Drop, C: Clock + Drop, I: Source, O: Sink>(
 /// a closing told of damage or of a store that failed it is 7 or 4. Where the store can't be mounted it is 1, 3, 4 or 7, by why.
 ///
 /// Where the store told a sound tree a sound tree is left.
-pub fn serve_all<S: Store + Drop, C: Clock + Drop, I: Source, O: Sink>(
+pub fn serve_all<S: Store + Drop, C: Clock + Drop, I: Frames, O: Sink>(
     alloc: Global,
     host: u32,
     input: &mut I,

@@ -5,11 +5,16 @@
 //! threads do beside each other: no clause speaks of it.
 #![tactic(auto)]
 
+mod ahead;
 mod board;
 mod door;
+mod hearing;
+mod input;
 mod process;
 mod streams;
 
 pub use board::Board;
 pub use door::{Door, open_door};
+pub use hearing::Hearing;
+pub use input::{InputFrames, input_frames};
 pub use streams::{Answers, Requests};

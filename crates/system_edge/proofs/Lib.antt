@@ -1,1 +1,2 @@
+mod Holders
 mod Left

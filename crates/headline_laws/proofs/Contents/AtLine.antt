@@ -1,5 +1,5 @@
 -- A line whose actor has a writer: the line that opened this one, and where the part of the line begins.
-use Rattle.std.proofs.Common.{◌≡◌, ◌⊎◌, inl, inr, ℕ, Bool, true, false, nat_eq, List, [], ◌∷◌, ◌++◌, Option, Some, None, refl, sym, ap, ◌∙◌, subst, if◌then◌else◌}
+use Rattle.std.proofs.Common.{◌≡◌, ◌⊎◌, ◌≤◌, ◌<◌, ◌+◌, ◌||◌, inl, inr, ℕ, Bool, true, false, nat_eq, nat_lt, List, [], ◌∷◌, ◌++◌, length, Option, Some, None, refl, sym, ap, ◌∙◌, subst, arith, append_assoc, length-append, if◌then◌else◌}
 use Rattle.std.specs.Prelude.{⊤, slice_get}
 use Rattle.std.specs.List.{AllByRecursion}
 use Rattle.container_layout.specs.Items.{IsItem}
@@ -21,20 +21,23 @@ use Rattle.run_core.specs.Play.{IsRight}
 use Rattle.headline_laws.specs.OneFile.{OneFile}
 use Rattle.headline_laws.specs.OneWriter.{OneWriter}
 use Rattle.headline_laws.proofs.Plays.Facts.{Next}
-use Rattle.headline.specs.Run.{IsLine, Run, Says, Told, before, own, told}
+use Rattle.headline.specs.Run.{IsLine, Run, Says, Told, before, own, phased, surely_before, told}
 use Rattle.headline.specs.Trees.{Has}
 use Rattle.headline.specs.Writers.{Account, account, account_of, after_line, cap_of, host_of, nothing, told_of}
-use Rattle.headline.specs.Changes.{Writing, id_of, none, writer_at, writing_after, writing_next}
+use Rattle.headline.specs.Files.{reader_after, reader_at, reader_next}
+use Rattle.headline.specs.Changes.{Writing, id_of, none, writer_at, writing_after, writing_at, writing_next}
 use Rattle.headline_laws.proofs.Contents.FirstOpen.{FirstOpen, OpensNot, all_first, all_rest, first_open}
 use Rattle.headline_laws.proofs.Contents.OpenedWriter.{Behind, First, Home, Opening, Whole, account_is, entered_so, go, its, sound_first, started}
 use Rattle.headline_laws.proofs.Landed.Bounded.{Keeps, idle_keeps}
 use Rattle.headline_laws.proofs.Landed.Machines.{sync_latest, write_latest}
-use Rattle.headline_laws.proofs.OrderlyLines.Places.{own_split}
-use Rattle.headline_laws.proofs.Statements.Known.{HasEntered, IsNotOpened, entered_more, same_next}
+use Rattle.headline_laws.proofs.OrderlyLines.Answering.{among_own, own_rise}
+use Rattle.headline_laws.proofs.OrderlyLines.Places.{Rise, beside_rise, own_split}
+use Rattle.headline_laws.proofs.Statements.Known.{HasEntered, IsNotOpened, Known, entered_more, known_next, known_waits, same_next}
 use Rattle.headline_laws.proofs.Statements.LivingLines.{never_opened}
+use Rattle.headline_laws.proofs.Story.Apart.{both_true, halves, is_less, is_same, one_true}
 use Rattle.headline_laws.proofs.Story.Attributed.{either_part}
-use Rattle.headline_laws.proofs.Story.Lines.{ChainOf, chain_of, line_here, writing_append}
-use Rattle.headline_laws.proofs.Story.Parts.{PartOf}
+use Rattle.headline_laws.proofs.Story.Lines.{AnyLine, ChainOf, HasRooms, chain_of, line_here, reads_in, room_here, shown_at, stands_behind, writing_append}
+use Rattle.headline_laws.proofs.Story.Parts.{LinePart, PartOf, phases_apart}
 use Rattle.headline_laws.proofs.Story.Shown.{IsShown, ShownEach}
 use Rattle.headline_laws.proofs.Trees.Fresh.{number_new}
 use Rattle.headline_laws.proofs.Trees.WriterStands.{was_open}
@@ -117,7 +120,7 @@ either_own true t s owned ts (inl same) more = inl same
 either_own true t s owned ts (inr rest) more = inr (more rest)
 either_own false t s owned ts rest more = inr (more rest)
 
-own_line : (actor : ℕ) (ts : List Told) (t : Told) → Among t (own actor ts) → Among t ts
+pub own_line : (actor : ℕ) (ts : List Told) (t : Told) → Among t (own actor ts) → Among t ts
 own_line actor [] t at = absurd at
 own_line actor (s ∷ ts) t at = either_own (nat_eq s.actor actor) t s (own actor ts) ts at (λ rest. own_line actor ts t rest)
 
@@ -184,6 +187,13 @@ module _ (run : Run) (times : Option (List ℕ)) (mount : Stored) (start end : S
     pub before_is : own t.actor (before run t) ≡ pre ++ o ∷ between
     pub all_is : own t.actor (told run) ≡ pre ++ o ∷ (between ++ t ∷ rest)
     pub account_so : account run t.actor id (before run t) ≡ acc
+    -- its container, and the actor's lines behind it
+    pub reader : Option Told
+    pub writing : Writing
+    pub known : Known HomeOf c.parts.number p.earlier reader writing file writer
+    pub here : HomeOf t ≡ room_here Begins sound_begins c.parts.number right.history right.calls.blocks WholeOf (length run.after.rooms) shown
+    pub more : ShownEach Begins sound_begins c.parts.number right.history right.calls.blocks WholeOf (p.earlier ++ p.mine) p.e.kept shown.new shown.new_writer rest
+    pub rooms_are : HasRooms Begins sound_begins c.parts.number right.history right.calls.blocks WholeOf (length run.after.rooms) HomeOf (p.earlier ++ p.mine) p.e.kept shown.new shown.new_writer rest more
 
   module _ (t : Told) (id : ℕ) (is_line : IsLine run t) (its_id : writer_at run t ≡ Some id) where
     abbrev pub Earlier : List Told
@@ -229,10 +239,10 @@ module _ (run : Run) (times : Option (List ℕ)) (mount : Stored) (start end : S
       latest = (latest_stays b.d.writer b.cap u (nothing true) (writing_next (writing_after none fo.pre) fo.o.statement fo.o.outcome) not_again orderly_u writing_u).1 refl
 
       begun : Behind run times mount start end fits mounted tells sound right left t.actor c id fo.o.phase fo.post [] b u (t ∷ rest) → AtLine t id
-      begun T = by T.more
+      begun T = by T.more T.rooms_are
         where
-          by : ShownEach Begins sound_begins c.parts.number right.history right.calls.blocks WholeOf T.from T.kept T.file T.writer (t ∷ rest) → AtLine t id
-          by (p, told_so, idle, s, more) = record {
+          by : (each : ShownEach Begins sound_begins c.parts.number right.history right.calls.blocks WholeOf T.from T.kept T.file T.writer (t ∷ rest)) → HasRooms Begins sound_begins c.parts.number right.history right.calls.blocks WholeOf (length run.after.rooms) HomeOf T.from T.kept T.file T.writer (t ∷ rest) each → AtLine t id
+          by (p, told_so, idle, s, more) rooms_are = record {
             c = c;
             d = b.d;
             home_is = λ o opens. (let i = its run times mount start end fits mounted tells sound right left o id opens t.actor c fo.o.phase fo.post [] b in λ k. record { room = i.room k; host = i.host k; writer = b.its_id k });
@@ -255,6 +265,12 @@ module _ (run : Run) (times : Option (List ℕ)) (mount : Stored) (start end : S
             before_is = earlier_is;
             all_is = fo.is ∙ ap (λ z. fo.pre ++ fo.o ∷ z) post_is;
             account_so = ap (account_of id (cap_of (slice_get run.script.actors t.actor)) (nothing false)) earlier_is ∙ account_is run times mount start end fits mounted tells sound right left t.actor c id fo.o.phase fo.post [] b fo.pre fo.o u fo.says;
+            reader = reader_after b.reader u;
+            writing = writing_after b.writing u;
+            known = subst (λ es. Known HomeOf c.parts.number es (reader_after b.reader u) (writing_after b.writing u) T.file T.writer) (sym idle.is) (known_waits HomeOf c.parts.number T.from idle.idle (reader_after b.reader u) (writing_after b.writing u) T.file T.writer T.known);
+            here = rooms_are.0;
+            more = more;
+            rooms_are = rooms_are.1;
           }
 
     pub at_line : AtLine t id
@@ -269,3 +285,58 @@ module _ (run : Run) (times : Option (List ℕ)) (mount : Stored) (start end : S
     not_old n host is_item has =
         let at : IsLine run opener.line_of = is_among (told run) opener.line_of (own_line t.actor (told run) opener.line_of (subst (Among opener.line_of) (sym split) (among_first opener.line_of Earlier (t ∷ rest) opener.among_them))) in
         number_new run times mount start end fits mounted tells sound right opener.line_of id n host (record { is_line = at; says = opener.says }) is_item has
+
+  -- ---- a line that is surely behind another
+
+  -- its part lies behind that of the other
+  pub record LiesBehind (t : Told) (id : ℕ) (i : AtLine t id) (q : Told) : Type 0 where
+    pub reader : Option Told
+    pub writing : Writing
+    pub its_line : AnyLine run Begins end fits sound_begins right reader writing q
+    pub behind : length i.p.earlier + length i.p.mine ≤ length its_line.line.part.earlier
+
+  module _ (t : Told) (id : ℕ) (i : AtLine t id) (q : Told) (is_line : IsLine run q) where
+    of_actor : t.place < q.place → q.actor ≡ t.actor → LiesBehind t id i q
+    of_actor far same =
+        let there : Among q (own t.actor (told run)) = subst (λ a. Among q (own a (told run))) same (among_own (told run) q (among (told run) q is_line)) in
+        let rise : Rise 0 (own t.actor (told run)) = own_rise t.actor 0 (told run) (beside_rise 0 (phased 0 run.script.phases) run.lines) in
+        let all : own t.actor (told run) ≡ (i.pre ++ i.o ∷ i.between) ++ t ∷ i.rest = i.all_is ∙ sym (append_assoc i.pre (i.o ∷ i.between) (t ∷ i.rest)) in
+        let at : Among q i.rest = stands_behind run Begins end fits sound_begins right t q (i.pre ++ i.o ∷ i.between) i.rest 0 (subst (Rise 0) all rise) far (subst (Among q) all there) in
+        let h = halves q i.rest at in
+        from h.front h.rest h.is (subst Chain h.is (i.more, i.rooms_are))
+      where
+        Chain : List Told → Type 0
+        Chain ts =
+            (each : ShownEach Begins sound_begins i.c.parts.number right.history right.calls.blocks WholeOf (i.p.earlier ++ i.p.mine) i.p.e.kept i.shown.new i.shown.new_writer ts)
+            × HasRooms Begins sound_begins i.c.parts.number right.history right.calls.blocks WholeOf (length run.after.rooms) HomeOf (i.p.earlier ++ i.p.mine) i.p.e.kept i.shown.new i.shown.new_writer ts each
+
+        from : (front rest : List Told) → i.rest ≡ front ++ q ∷ rest → Chain (front ++ q ∷ rest) → LiesBehind t id i q
+        from front rest is (each, rooms_are) =
+            let s = i.shown in
+            let after = known_next HomeOf Begins i.c.parts.number i.p.earlier s.front s.rest i.reader i.writing t i.file s.new i.writer s.new_writer s.shows s.writes
+            (reads_in HomeOf Begins i.c.parts.number (record { before = i.p.earlier; events = s.front }) (length run.after.rooms) i.file s.new s.new_writer t t.statement t.outcome s.shows i.here) i.known in
+            let known_then = subst (λ es. Known HomeOf i.c.parts.number (i.p.earlier ++ es) (reader_next i.reader t t.outcome) (writing_next i.writing t.statement t.outcome) s.new s.new_writer) (sym s.split) after in
+            let l = shown_at Begins sound_begins i.c.parts.number right.history right.calls.blocks WholeOf (length run.after.rooms) HomeOf front q rest (i.p.earlier ++ i.p.mine) i.p.e.kept s.new s.new_writer (reader_next i.reader t t.outcome) (writing_next i.writing t.statement t.outcome) each rooms_are known_then in
+            let far = l.1 in
+            let long = length-append i.p.earlier i.p.mine in
+            record {
+              reader = reader_after (reader_next i.reader t t.outcome) front;
+              writing = writing_after (writing_next i.writing t.statement t.outcome) front;
+              its_line = record { number = i.c.parts.number; line = l.0 };
+              behind = omega (arith, far, long);
+            }
+
+    of_phase : t.phase < q.phase → LiesBehind t id i q
+    of_phase sooner =
+        let l = line_here run Begins end fits sound_begins right q is_line in
+        let one : LinePart i.c.parts.number right.history right.calls.blocks t = record { kept = i.kept; part = i.p; says = i.says } in
+        let other : LinePart l.number right.history right.calls.blocks q = record { kept = l.line.kept; part = l.line.part; says = l.line.says } in
+        record { reader = reader_at run q; writing = writing_at run q; its_line = l; behind = phases_apart i.c.parts.number l.number right.history right.calls.blocks t q one other sooner }
+
+    pub lies_behind : run.in_order ≡ false → surely_before run t q ≡ true → LiesBehind t id i q
+    lies_behind free sooner =
+        let places = both_true (nat_lt t.place q.place) (run.in_order || nat_lt t.phase q.phase || nat_eq t.actor q.actor) sooner in
+        elim (one_true run.in_order (nat_lt t.phase q.phase) (nat_eq t.actor q.actor) free places.1) as (λ _. LiesBehind t id i q) [
+          | inl phases ↦ of_phase (is_less t.phase q.phase phases)
+          | inr same ↦ of_actor (is_less t.place q.place places.0) (sym (is_same t.actor q.actor same))
+        ]

@@ -42,7 +42,7 @@ use Rattle.headline_laws.proofs.Statements.Known.{HasEntered, Known, entered_mor
 use Rattle.headline_laws.proofs.Statements.LivingLines.{GoesOn, Open, idle_open, line_stays, not_out}
 use Rattle.headline_laws.proofs.Story.Attributed.{either_part, head_of, tail_of}
 use Rattle.headline_laws.proofs.Story.Lines.{AnyLine, ChainOf, HasRooms, chain_of, line_here, reads_in}
-use Rattle.headline_laws.proofs.Story.Ordered.{Front, IsBehind, Ordered, all_own, begun_first, begun_phases, has_begun, own_ordered, sooner_is, ended_are, ended_first, ends_before}
+use Rattle.headline_laws.proofs.Story.Ordered.{Front, IsBehind, Ordered, all_own, begun_first, begun_phases, has_begun, is_sooner, own_ordered, sooner_is, ended_are, ended_first, ends_before}
 use Rattle.headline_laws.proofs.Story.Parts.{PartOf, begins, begins_rise}
 use Rattle.headline_laws.proofs.Story.Shown.{IsShown, ShownEach}
 use Rattle.headline_laws.proofs.Trees.Kept.{entry_stands}
@@ -230,7 +230,23 @@ module _ (run : Run) (times : Option (List ℕ)) (mount : Stored) (start end : S
     pub host : ℕ
     pub entry : HadItem (moment_after First till) (Home t) (OpenHost host id)
 
-  module _ (free : run.in_order ≡ false) (t o : Told) (id : ℕ) (is_line : IsLine run t) (goes : GoesOn t) (opened : Says run o (line.Opened id)) (home : Home o ≡ Home t) (sooner : surely_before run o t ≡ true)
+  -- from so many events on, at some time
+  pub record StandsTill (long : ℕ) (t : Told) (id : ℕ) : Type 0 where
+    pub till : List Event
+    pub more : List Event
+    pub is : right.history ≡ till ++ more
+    pub behind : long ≤ length till
+    pub host : ℕ
+    pub entry : HadItem (moment_after First till) (Home t) (OpenHost host id)
+
+  -- behind the line's part, whether or not the number was drawn by its beginning
+  pub record StandsBehind (t : Told) (id : ℕ) : Type 0 where
+    pub reader : Option Told
+    pub writing : Writing
+    pub its_line : AnyLine run First end fits sound_first right reader writing t
+    pub stands : StandsTill (length its_line.line.part.earlier + length its_line.line.part.mine) t id
+
+  module _ (free : run.in_order ≡ false) (t o : Told) (id : ℕ) (is_line : IsLine run t) (goes : GoesOn t) (opens_not : t.outcome ≡ line.Opened id → ⊥) (opened : Says run o (line.Opened id)) (home : Home o ≡ Home t) (early : surely_before run t o ≡ false)
       (still : (s : Told) → IsLine run s → s.actor ≡ o.actor → o.place < s.place → surely_before run t s ≡ false → GoesOn s) where
     abbrev c : ChainOf run First end fits sound_first right o.actor
     c = chain_of run First end fits sound_first right o opened.is_line
@@ -289,8 +305,29 @@ module _ (run : Run) (times : Option (List ℕ)) (mount : Stored) (start end : S
       its_lines : (xs : List Told) → ((s : Told) → Among s xs → Among s (own o.actor (told run))) → (s : Told) → Among s xs → Among s (told run)
       its_lines xs within s at = among_filter (λ (x : Told). nat_eq x.actor o.actor) (told run) s (within s at)
 
+      abbrev its_part : AnyLine run First end fits sound_first right (reader_at run t) (writing_at run t) t
+      its_part = line_here run First end fits sound_first right t is_line
+
+      -- of another actor whose line was before
+      other_drawn : surely_before run o t ≡ true → (o.actor ≡ t.actor → ⊥) → id ≤ last_id (moment_after First its_part.line.part.earlier).state
+      other_drawn sooner apart =
+          let first = entered_drawn n (b.earlier ++ b.mine) b.later b.d (all_split run times mount start end fits mounted tells sound right left o.actor c id o.phase post [] b) (entered_so run times mount start end fits mounted tells sound right left o.actor c id o.phase post [] b) in
+          let rise = begins_rise right.calls.blocks (o.phase + 1) t.phase (let low = phases in omega (arith, low)) in
+          let long = length-append b.earlier b.mine in
+          let within = b.within in
+          let from = its_part.line.part.from_phase in
+          let more = drawn_rises (b.earlier ++ b.mine) its_part.line.part.earlier b.later (its_part.line.part.mine ++ its_part.line.part.later) (all_split run times mount start end fits mounted tells sound right left o.actor c id o.phase post [] b) its_part.line.part.split (omega (arith, rise, long, within, from)) in
+          let its_id = b.its_id in
+          omega (arith, first, more, its_id)
+        where
+          phases : o.phase < t.phase
+          phases = elim (sooner_is run free t o t sooner).1 as (λ _. o.phase < t.phase) [
+            | inl low ↦ low
+            | inr same ↦ absurd (apart same)
+          ]
+
       -- of another actor
-      of_other : (o.actor ≡ t.actor → ⊥) → StandsOpen t id
+      of_other : (o.actor ≡ t.actor → ⊥) → StandsTill (length its_part.line.part.earlier + length its_part.line.part.mine) t id
       of_other apart = by (either_part f.front f.rest Earlier o post (sym f.is ∙ split))
         where
           f : Front (has_begun run free t) (own o.actor (told run))
@@ -299,28 +336,8 @@ module _ (run : Run) (times : Option (List ℕ)) (mount : Stored) (start end : S
           late : AllByRecursion (λ (s : Told). t.phase + 1 ≤ s.phase) f.rest
           late = begun_phases run free t o.actor f.rest apart (all_own run free t o.actor f.front f.rest f.is).1 f.bad
 
-          l : AnyLine run First end fits sound_first right (reader_at run t) (writing_at run t) t
-          l = line_here run First end fits sound_first right t is_line
-
           its_end : List Event
-          its_end = l.line.part.earlier ++ l.line.part.mine
-
-          phases : o.phase < t.phase
-          phases = elim (sooner_is run free t o t sooner).1 as (λ _. o.phase < t.phase) [
-            | inl low ↦ low
-            | inr same ↦ absurd (apart same)
-          ]
-
-          drawn : id ≤ last_id (moment_after First l.line.part.earlier).state
-          drawn =
-              let first = entered_drawn n (b.earlier ++ b.mine) b.later b.d (all_split run times mount start end fits mounted tells sound right left o.actor c id o.phase post [] b) (entered_so run times mount start end fits mounted tells sound right left o.actor c id o.phase post [] b) in
-              let rise = begins_rise right.calls.blocks (o.phase + 1) t.phase (let low = phases in omega (arith, low)) in
-              let long = length-append b.earlier b.mine in
-              let within = b.within in
-              let from = l.line.part.from_phase in
-              let more = drawn_rises (b.earlier ++ b.mine) l.line.part.earlier b.later (l.line.part.mine ++ l.line.part.later) (all_split run times mount start end fits mounted tells sound right left o.actor c id o.phase post [] b) l.line.part.split (omega (arith, rise, long, within, from)) in
-              let its_id = b.its_id in
-              omega (arith, first, more, its_id)
+          its_end = its_part.line.part.earlier ++ its_part.line.part.mine
 
           begun_false : (ss : List Told) → AllByRecursion (λ (s : Told). has_begun run free t s ≡ true) ss → AllByRecursion (λ (s : Told). surely_before run t s ≡ false) ss
           begun_false [] all = tt
@@ -330,17 +347,17 @@ module _ (run : Run) (times : Option (List ℕ)) (mount : Stored) (start end : S
               off true is = absurd (cc)
               off false is = refl
 
-          far_end : (z zs : List Event) → right.history ≡ z ++ zs → (begins right.calls.blocks (t.phase + 1) ≤ length z) ⊎ (zs ≡ []) → length l.line.part.earlier + length l.line.part.mine ≤ length z
-          far_end z zs is (inl far) = let within = l.line.part.within_phase in omega (arith, far, within)
+          far_end : (z zs : List Event) → right.history ≡ z ++ zs → (begins right.calls.blocks (t.phase + 1) ≤ length z) ⊎ (zs ≡ []) → length its_part.line.part.earlier + length its_part.line.part.mine ≤ length z
+          far_end z zs is (inl far) = let within = its_part.line.part.within_phase in omega (arith, far, within)
           far_end z zs is (inr none) =
               let all : right.history ≡ z = is ∙ ap (λ x. z ++ x) none ∙ append-nil z in
-              let both : its_end ++ l.line.part.later ≡ z = append_assoc l.line.part.earlier l.line.part.mine l.line.part.later ∙ sym l.line.part.split ∙ all in
-              let long = length-append its_end l.line.part.later in
+              let both : its_end ++ its_part.line.part.later ≡ z = append_assoc its_part.line.part.earlier its_part.line.part.mine its_part.line.part.later ∙ sym its_part.line.part.split ∙ all in
+              let long = length-append its_end its_part.line.part.later in
               let same = ap length both in
-              let own_long = length-append l.line.part.earlier l.line.part.mine in
+              let own_long = length-append its_part.line.part.earlier its_part.line.part.mine in
               omega (arith, long, same, own_long)
 
-          behind_it : (u : List Told) → f.front ≡ Earlier ++ o ∷ u → post ≡ u ++ f.rest → StandsOpen t id
+          behind_it : (u : List Told) → f.front ≡ Earlier ++ o ∷ u → post ≡ u ++ f.rest → StandsTill (length its_part.line.part.earlier + length its_part.line.part.mine) t id
           behind_it u front_is post_is =
               let begun = begun_false u (all_rest (λ (s : Told). has_begun run free t s ≡ true) (Earlier ++ o ∷ []) u (subst (AllByRecursion (λ (s : Told). has_begun run free t s ≡ true)) (front_is ∙ sym (append_assoc Earlier (o ∷ []) u)) f.good)) in
               let theirs = all_rest (λ (s : Told). s.actor ≡ o.actor) (Earlier ++ o ∷ []) u (subst (AllByRecursion (λ (s : Told). s.actor ≡ o.actor)) (front_is ∙ sym (append_assoc Earlier (o ∷ []) u)) (all_own run free t o.actor f.front f.rest f.is).0) in
@@ -349,10 +366,6 @@ module _ (run : Run) (times : Option (List ℕ)) (mount : Stored) (start end : S
               let T = go_open u f.rest post_is (goes_so u (its_lines u there) theirs later begun) in
               let U = open_until First sound_first n right.history right.calls.blocks Whole (length run.after.rooms) b.cap b.d T.t.from T.t.kept T.t.file T.t.writer (account_of b.d.writer b.cap (nothing true) u) f.rest T.t.more T.open_then T.t.keeps in
               record {
-                reader = reader_at run t;
-                writing = writing_at run t;
-                its_line = l;
-                drawn = drawn;
                 till = U.till;
                 more = U.more;
                 is = U.is;
@@ -361,12 +374,15 @@ module _ (run : Run) (times : Option (List ℕ)) (mount : Stored) (start end : S
                 entry = named_so U.till (U.entry (sound_by U.till U.more U.is));
               }
 
-          by : ((u : List Told) × (f.front ≡ Earlier ++ o ∷ u) × (post ≡ u ++ f.rest)) ⊎ ((u : List Told) × (Earlier ≡ f.front ++ u) × (f.rest ≡ u ++ o ∷ post)) → StandsOpen t id
+          by : ((u : List Told) × (f.front ≡ Earlier ++ o ∷ u) × (post ≡ u ++ f.rest)) ⊎ ((u : List Told) × (Earlier ≡ f.front ++ u) × (f.rest ≡ u ++ o ∷ post)) → StandsTill (length its_part.line.part.earlier + length its_part.line.part.mine) t id
           by (inl (u, front_is, post_is)) = behind_it u front_is post_is
           by (inr (u, pre_is, rest_is)) =
-              let its_phase = (all_rest (λ (s : Told). t.phase + 1 ≤ s.phase) u (o ∷ post) (subst (AllByRecursion (λ (s : Told). t.phase + 1 ≤ s.phase)) rest_is late)).0 in
-              let low = phases in
-              absurd (omega (arith, its_phase, low))
+              let bad : has_begun run free t o ≡ false = (all_rest (λ (s : Told). has_begun run free t s ≡ false) u (o ∷ post) (subst (AllByRecursion (λ (s : Told). has_begun run free t s ≡ false)) rest_is f.bad)).0 in
+              let good : has_begun run free t o ≡ true = ap not early in
+              absurd (not_both (has_begun run free t o) good bad)
+            where
+              not_both : (x : Bool) → x ≡ true → x ≡ false → ⊥
+              not_both x on off = cc
 
       -- of the line's own actor
       of_own : (rest : List Told) (u : List Told) → own o.actor (before run t) ≡ Earlier ++ o ∷ u → post ≡ u ++ t ∷ rest → StandsOpen t id
@@ -446,8 +462,11 @@ module _ (run : Run) (times : Option (List ℕ)) (mount : Stored) (start end : S
           its_split : own o.actor (told run) ≡ own o.actor (before run t) ++ t ∷ rest
           its_split = ap (λ a. own a (told run)) same ∙ mine.is ∙ ap (λ a. own a (before run t) ++ t ∷ rest) (sym same)
 
-          far : o.place < t.place
-          far = (sooner_is run free t o t sooner).0
+          not_before : t.place < o.place → ⊥
+          not_before far = by (is_sooner run free t t o far (inr (sym same)))
+            where
+              by : surely_before run t o ≡ true → ⊥
+              by is = let clash : true ≡ false = sym is ∙ early in absurd (cc)
 
           tail_of_t : (xs : List Told) → Ordered (xs ++ t ∷ rest) → AllByRecursion (IsBehind t) rest
           tail_of_t [] ordered = ordered.0
@@ -457,26 +476,50 @@ module _ (run : Run) (times : Option (List ℕ)) (mount : Stored) (start end : S
           behind_t = tail_of_t (own o.actor (before run t)) (subst Ordered its_split (own_ordered run free t o.actor))
 
           none : (u : List Told) → t ∷ rest ≡ u ++ o ∷ post → ⊥
-          none [] is = let one : t.place ≡ o.place = ap (λ (s : Told). s.place) (head_of t o rest post is) in let low = far in omega (arith, one, low)
-          none (y ∷ u) is = let late = (all_rest (IsBehind t) u (o ∷ post) (subst (AllByRecursion (IsBehind t)) (tail_of t y rest (u ++ o ∷ post) is) behind_t)).0.0 in let low = far in omega (arith, late, low)
+          none [] is = opens_not (ap (λ (s : Told). s.outcome) (head_of t o rest post is) ∙ opened.says)
+          none (y ∷ u) is = not_before (all_rest (IsBehind t) u (o ∷ post) (subst (AllByRecursion (IsBehind t)) (tail_of t y rest (u ++ o ∷ post) is) behind_t)).0.0
 
           by : ((u : List Told) × (own o.actor (before run t) ≡ Earlier ++ o ∷ u) × (post ≡ u ++ t ∷ rest)) ⊎ ((u : List Told) × (Earlier ≡ own o.actor (before run t) ++ u) × (t ∷ rest ≡ u ++ o ∷ post)) → StandsOpen t id
           by (inl (u, before_is, post_is)) = of_own rest u before_is post_is
           by (inr (u, pre_is, rest_is)) = absurd (none u rest_is)
 
-    -- The law of this file: its entry stands behind the line.
-    pub stands_open : StandsOpen t id
-    stands_open = by (nat_eq o.actor t.actor) refl
+    its_own : Split run o (told run)
+    its_own = own_split run o (among (told run) o opened.is_line)
+
+    same_actor : nat_eq o.actor t.actor ≡ true → o.actor ≡ t.actor
+    same_actor is = grind (arith, nat_tests)
+
+    other_actor : nat_eq o.actor t.actor ≡ false → o.actor ≡ t.actor → ⊥
+    other_actor off is = let on : nat_eq o.actor t.actor ≡ true = grind (arith, nat_tests) in let clash : true ≡ false = sym on ∙ off in absurd (cc)
+
+    -- The laws of this file: its entry stands behind the line.
+    pub stands_behind : StandsBehind t id
+    stands_behind = by (nat_eq o.actor t.actor) refl
       where
-        its_own : Split run o (told run)
-        its_own = own_split run o (among (told run) o opened.is_line)
+        drop_drawn : StandsOpen t id → StandsBehind t id
+        drop_drawn x = record { reader = x.reader; writing = x.writing; its_line = x.its_line; stands = record { till = x.till; more = x.more; is = x.is; behind = x.behind; host = x.host; entry = x.entry } }
 
-        same_actor : nat_eq o.actor t.actor ≡ true → o.actor ≡ t.actor
-        same_actor is = grind (arith, nat_tests)
+        by : (x : Bool) → nat_eq o.actor t.actor ≡ x → StandsBehind t id
+        by true is = drop_drawn (own_so its_own.rest its_own.is (same_actor is))
+        by false off = record { reader = reader_at run t; writing = writing_at run t; its_line = its_part its_own.rest its_own.is; stands = of_other its_own.rest its_own.is (other_actor off) }
 
-        other_actor : nat_eq o.actor t.actor ≡ false → o.actor ≡ t.actor → ⊥
-        other_actor off is = let on : nat_eq o.actor t.actor ≡ true = grind (arith, nat_tests) in let clash : true ≡ false = sym on ∙ off in absurd (cc)
-
+    pub stands_open : surely_before run o t ≡ true → StandsOpen t id
+    stands_open sooner = by (nat_eq o.actor t.actor) refl
+      where
         by : (x : Bool) → nat_eq o.actor t.actor ≡ x → StandsOpen t id
         by true is = own_so its_own.rest its_own.is (same_actor is)
-        by false off = of_other its_own.rest its_own.is (other_actor off)
+        by false off = with_drawn (of_other its_own.rest its_own.is (other_actor off))
+          where
+            with_drawn : StandsTill (length (its_part its_own.rest its_own.is).line.part.earlier + length (its_part its_own.rest its_own.is).line.part.mine) t id → StandsOpen t id
+            with_drawn e = record {
+              reader = reader_at run t;
+              writing = writing_at run t;
+              its_line = its_part its_own.rest its_own.is;
+              drawn = other_drawn its_own.rest its_own.is sooner (other_actor off);
+              till = e.till;
+              more = e.more;
+              is = e.is;
+              behind = e.behind;
+              host = e.host;
+              entry = e.entry;
+            }

@@ -12,11 +12,11 @@ use Rattle.store_api.specs.declared.tree.Tree.{Tree}
 use Rattle.store_api.specs.Acts.{Stored}
 use Rattle.store_api.specs.Names.{marks_folder}
 use Rattle.store_api.specs.Room.{is_top}
-use Rattle.store_api.specs.Step.{Step, cut, write_at}
+use Rattle.store_api.specs.Step.{Step, cut, remove, write_at}
 use Rattle.store_laws.specs.Files.{file_at}
 use Rattle.store_laws.specs.Naming.{NamesFile}
 use Rattle.store_laws.specs.Tells.{Tells}
-use Rattle.store_laws.proofs.Facts.{acts_told, cut_told, keeps_rooms, path_cases, write_told}
+use Rattle.store_laws.proofs.Facts.{acts_told, cut_told, keeps_rooms, path_cases, remove_told, write_told}
 use Rattle.mount_model.specs.History.{Event}
 use Rattle.mount_model.specs.Making.{Told}
 use Rattle.mount_model.specs.Mounting.{IsMounted, list_step, mark_step, marks_step}
@@ -25,8 +25,9 @@ use Rattle.mount_sound.proofs.Facts.{ActsOn, no_item, rooms_from}
 use Rattle.reader_laws.specs.Moments.{HadItem, IsSoundAt, Moment, file_in_room, file_then, file_told, next_moment}
 use Rattle.reader_laws.proofs.Gathered.Facts.{in_a_room}
 
--- the step changes only a file that is there
+-- the step changes or removes only a file that is there
 abbrev pub ChangesOnly : Step → Type 0
+ChangesOnly (remove n folder file) = ⊤
 ChangesOnly (write_at n folder file at bytes) = ⊤
 ChangesOnly (cut n folder file len) = ⊤
 ChangesOnly step = ⊥
@@ -72,6 +73,12 @@ module _ (tree : Tree) (told : Told) (after : Tree) (number : ℕ) (item : Item)
     | inr stays ↦ as_before stays
   ]
 
+  removes : (n : ℕ) (path : Path) → Tells (remove n path.folder path.file) tree told after → number ≡ n → path_of item ≡ path → IsIn tree number item
+  removes n path tells here same = elim (remove_told n path tree told after tells).either as (λ _. IsIn tree number item) [
+    | inl c ↦ named_there n path c.room c.old here same c.has_room c.there
+    | inr stays ↦ as_before stays
+  ]
+
   by_path : (step : Step) (n : ℕ) (path : Path) → Tells step tree told after → ((path_of item).folder ≡ path.folder → (path_of item).file ≡ path.file → number ≡ n → NamesFile step number (path_of item)) → (NamesFile step number (path_of item) → (number ≡ n) × ((path_of item).folder ≡ path.folder) × ((path_of item).file ≡ path.file))
       → (number ≡ n → path_of item ≡ path → IsIn tree number item) → IsIn tree number item
   by_path step n path tells names named changes = elim (cases_eq number n) as (λ _. IsIn tree number item) [
@@ -85,6 +92,7 @@ module _ (tree : Tree) (told : Told) (after : Tree) (number : ℕ) (item : Item)
   pub was_in : (step : Step) → Tells step tree told after → (NamesFile step number (path_of item) → ChangesOnly step) → IsIn tree number item
   was_in (write_at n folder file at bytes) tells only =
       by_path (write_at n folder file at bytes) n (record { folder = folder; file = file }) tells (λ f g here. (here, (f, g))) (λ x. (x.0, x.1.0, x.1.1)) (λ here same. writes n (record { folder = folder; file = file }) at bytes tells here same)
+  was_in (remove n folder file) tells only = by_path (remove n folder file) n (record { folder = folder; file = file }) tells (λ f g here. (here, (f, g))) (λ x. (x.0, x.1.0, x.1.1)) (λ here same. removes n (record { folder = folder; file = file }) tells here same)
   was_in (cut n folder file len) tells only = by_path (cut n folder file len) n (record { folder = folder; file = file }) tells (λ f g here. (here, (f, g))) (λ x. (x.0, x.1.0, x.1.1)) (λ here same. cuts n (record { folder = folder; file = file }) len tells here same)
   was_in step tells only = unnamed step tells only
 

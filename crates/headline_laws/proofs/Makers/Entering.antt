@@ -122,7 +122,7 @@ module _ (kept : Kept) where
   abbrev Halted : Work
   Halted = finishes (stopped kept)
 
-  trouble_ends : (r : Reply) → TroubleEnd r (open_outcome (Err (trouble r)))
+  pub trouble_ends : (r : Reply) → TroubleEnd r (open_outcome (Err (trouble r)))
   trouble_ends (reply.Refused why) = (why, refl)
   trouble_ends (reply.Damaged folder file) = tt
   trouble_ends r = tt

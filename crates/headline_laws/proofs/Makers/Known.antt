@@ -1,5 +1,5 @@
 -- Each truncate that stands, or that a line shows, is of the tree before, or of a line that told it or broke off.
-use Rattle.std.proofs.Common.{◌≡◌, ◌⊎◌, ◌≤◌, ◌+◌, ◌||◌, inl, inr, ℕ, Bool, true, false, nat_eq, nat_lt, List, [], ◌∷◌, ◌++◌, length, get_or, Option, Some, None, refl, sym, ap, ◌∙◌, subst, arith, append_assoc, length-append}
+use Rattle.std.proofs.Common.{◌≡◌, ◌⊎◌, ◌≤◌, ◌+◌, inl, inr, ℕ, Bool, true, false, List, [], ◌∷◌, ◌++◌, length, get_or, Option, Some, None, refl, sym, ap, ◌∙◌, subst, arith, append_assoc}
 use Rattle.std.specs.Prelude.{slice_get}
 use Rattle.std.specs.List.{All, AllByRecursion}
 use Rattle.std.proofs.lemmas.List.{append-nil}
@@ -49,10 +49,8 @@ use Rattle.headline.specs.Views.{Truncates, item_of}
 use Rattle.headline.specs.Truncs.{HasTruncs, IsKnown}
 use Rattle.headline.specs.Changes.{Writing, writing_at}
 use Rattle.headline.specs.Files.{reader_at}
-use Rattle.headline_laws.proofs.Story.Apart.{both_true, is_less, is_same, one_true}
-use Rattle.headline_laws.proofs.Story.Attributed.{Attributed, attributed}
+use Rattle.headline_laws.proofs.Story.Attributed.{Attributed, attributed, ends_before}
 use Rattle.headline_laws.proofs.Story.Lines.{AnyLine, container, first_held, held_room, line_here, room_of}
-use Rattle.headline_laws.proofs.Story.Parts.{LinePart, phases_apart}
 use Rattle.headline_laws.proofs.Makers.Back.{mounted_back}
 use Rattle.headline_laws.proofs.Makers.Holding.{HoldsOnly, lets_go, only_along, only_granted}
 use Rattle.headline_laws.proofs.Makers.Holds.{HoldsAndMarks, IsMark, IsRefusal, MarkEnd, MarkedSo, halted, holds_and_marks, let_go, truncate_free}
@@ -316,20 +314,9 @@ module _ (run : Run) (m : Moment) (end : State) (fits : FitsScript run.script) (
 
     began : (new : NewTrunc m Z.es (Of t) u.stamp u.size) (a : Attributed run m end fits sound right new.pre new.event) → surely_before run t a.t ≡ true → ⊥
     began new a sooner =
-        let places = both_true (nat_lt t.place a.t.place) (run.in_order || nat_lt t.phase a.t.phase || nat_eq t.actor a.t.actor) sooner in
-        elim (one_true run.in_order (nat_lt t.phase a.t.phase) (nat_eq t.actor a.t.actor) free places.1) as (λ _. ⊥) [
-          | inl phases ↦
-              let p : LinePart L.number right.history right.calls.blocks t = record { kept = L.line.kept; part = L.line.part; says = L.line.says } in
-              let q : LinePart a.line.number right.history right.calls.blocks a.t = record { kept = a.line.line.kept; part = a.line.line.part; says = a.line.line.says } in
-              let apart = phases_apart L.number a.line.number right.history right.calls.blocks t a.t p q (is_less t.phase a.t.phase phases) in
-              not_sooner new Z.es Z.rest Z.all (Z.stood u at) (omega (arith, apart, Z.within, ap length a.before_is, length-append a.line.line.part.earlier a.first))
-          | inr same ↦ elim (a.sooner t is_line (is_same t.actor a.t.actor same)) as (λ _. ⊥) [
-            | inr far ↦ let near = is_less t.place a.t.place places.0 in omega (arith, far, near)
-            | inl l ↦
-                let z = lists l.reader l.writing l.line in
-                not_sooner new z.es z.rest z.all (z.stood u at) (omega (arith, z.within, l.ends, ap length a.before_is, length-append a.line.line.part.earlier a.first))
-          ]
-        ]
+        let l = ends_before run m end fits sound right new.pre new.event a t is_line free sooner in
+        let z = lists l.reader l.writing l.line in
+        not_sooner new z.es z.rest z.all (z.stood u at) (omega (arith, z.within, l.ends))
 
     -- it stood at first, or a line made it that began by the end
     known : HadTrunc m (Of t) u.stamp u.size ⊎ ((s : Told) × Truncates run (record { namings = []; of = Of }) s (Of t) u × (surely_before run t s ≡ false))

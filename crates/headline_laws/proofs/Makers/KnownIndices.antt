@@ -64,14 +64,14 @@ module _ (m : Moment) (n : ℕ) (before front : List Event) (nothing : ℕ) (old
   abbrev There : Stretch
   There = record { before = before; events = front }
 
-  broken_room : (s : Statement) (o : Outcome) → s ≡ Open name → BrokeOff o → (shows : Shows m n There old s o new) → room_of m n There nothing old new w s o shows ≡ entered_room n nothing front
+  pub broken_room : (s : Statement) (o : Outcome) → s ≡ Open name → BrokeOff o → (shows : Shows m n There old s o new) → room_of m n There nothing old new w s o shows ≡ entered_room n nothing front
   broken_room (Open name2) line.Fault is broke shows = refl
   broken_room (Open name2) line.Stopped is broke shows = refl
   broken_room s o is (failed f) shows = absurd (cc)
   broken_room s o is (stopped f) shows = absurd (cc)
 
   -- no line of an opening tells of damage
-  undamaged : (s : Statement) (folder file : List ℕ) (place : ℕ) (o : Outcome) → s ≡ Open name → o ≡ line.Damaged folder file place → Shows m n There old s o new → ⊥
+  pub undamaged : (s : Statement) (folder file : List ℕ) (place : ℕ) (o : Outcome) → s ≡ Open name → o ≡ line.Damaged folder file place → Shows m n There old s o new → ⊥
   undamaged (Open name2) folder file place (line.Damaged folder2 file2 place2) is says shows = shows.1
   undamaged s folder file place o is says shows = absurd (cc)
 
@@ -79,7 +79,7 @@ one_row : (a b : Row) (o : Option Row) → o ≡ Some a → o ≡ Some b → a �
 one_row a b o is also = cc
 
 -- a call that was answered so was whole
-whole_call : (old : State) (e : Event) (w : ℕ) → IsStep old e.caller e.ask e.reply e.after → e.reply ≡ reply.Entered w → e.ask.stop ≡ None
+pub whole_call : (old : State) (e : Event) (w : ℕ) → IsStep old e.caller e.ask e.reply e.after → e.reply ≡ reply.Entered w → e.ask.stop ≡ None
 whole_call old e w step told = step_cases old e.caller e.ask e.reply e.after (e.ask.stop ≡ None) step (λ none a. none) (λ k some x. absurd (broken (stop_replies old e.caller k e.ask.call e.reply e.after x)))
   where
     broken : (e.reply ≡ reply.Stopped) ⊎ (e.reply ≡ reply.NoMemory) → ⊥

@@ -21,6 +21,7 @@ use Rattle.mount_model.specs.State.{State, Table, put}
 use Rattle.mount_model.specs.Table.{at_stage, held_by, only, row_of, writer_of}
 use Rattle.mount_model.proofs.Facts.{IsHeld, is_held, match_cases, row_of-with_row}
 use Rattle.mount_model.specs.declared.stuck.Stuck.{Stuck}
+use Rattle.mount_model.specs.declared.stuck.Stuck.TheVariants as stuck
 use Rattle.mount_model.specs.Program.{done}
 use Rattle.writer_flow.specs.declared.handle.WriterHandle.{WriterHandle}
 use Rattle.writer_flow.specs.Ending.{trouble}
@@ -29,7 +30,8 @@ use Rattle.writer_flow.specs.Opening.{finds_floor, if_done, if_entered, if_floor
 use Rattle.reader_laws.specs.Moments.{Moment}
 use Rattle.headline_laws.proofs.Makers.Rows.{built, entered_so, indexed_so}
 use Rattle.headline_laws.proofs.Reasons.Containers.{has_room, made_there, not_marks}
-use Rattle.headline_laws.proofs.Reasons.Goes.{EndsSo, Fact, Goes, IsSo, Stepped, anything, staged, stands}
+use Rattle.headline_laws.proofs.Reasons.Goes.{EndsSo, Fact, Goes, IsSo, Stepped, anything, goes_more, staged, stands}
+use Rattle.headline_laws.proofs.Reasons.Looks.{never_refused}
 use Rattle.headline_laws.proofs.Reasons.Writers.{trouble_so}
 
 abbrev pub MayRefuseOpen : Refusal → Type 0
@@ -40,6 +42,16 @@ MayRefuseOpen other = ⊥
 -- it ended so, or with such a refusal
 abbrev pub OpenedSo : Result WriterHandle Stuck → Type 0
 OpenedSo = EndsSo (λ (handle : WriterHandle). Unit {0}) MayRefuseOpen
+
+-- of who entered as this writer nothing is refused, and what it opens is this writer
+abbrev pub EntersSo : ℕ → Result WriterHandle Stuck → Type 0
+EntersSo w = EndsSo (λ (handle : WriterHandle). handle.writer ≡ w) never_refused
+
+opens_more : (w : ℕ) (result : Result WriterHandle Stuck) → EntersSo w result → OpenedSo result
+opens_more w (Ok handle) is = tt
+opens_more w (Err stuck.Fault) is = tt
+opens_more w (Err (stuck.Damaged folder file place)) is = tt
+opens_more w (Err (stuck.Refused why)) is = absurd is
 
 module _ (n : ℕ) where
   -- ---- the writer at each stage
@@ -100,35 +112,35 @@ module _ (n : ℕ) where
   -- ---- the calls
 
   -- after a trouble it leaves, whatever is answered then
-  leave_goes : (w : ℕ) (rep : Reply) → ((why : Refusal) → rep ≡ reply.Refused why → ⊥) → Goes n OpenedSo anything (leaves w (trouble rep))
-  leave_goes w rep never = λ at next other s so. (anything, tt, trouble_so MayRefuseOpen rep (λ why is. absurd (never why is)))
+  leave_goes : (w : ℕ) (rep : Reply) → ((why : Refusal) → rep ≡ reply.Refused why → ⊥) → Goes n (EntersSo w) anything (leaves w (trouble rep))
+  leave_goes w rep never = λ at next other s so. (anything, tt, trouble_so never_refused rep never)
 
-  logged : (w cap : ℕ) (rep : Reply) → ((why : Refusal) → rep ≡ reply.Refused why → ⊥) → Goes n OpenedSo anything (if_done w (done (Ok (opened_of w cap))) rep)
-  logged w cap reply.Done never = tt
+  logged : (w cap : ℕ) (rep : Reply) → ((why : Refusal) → rep ≡ reply.Refused why → ⊥) → Goes n (EntersSo w) anything (if_done w (done (Ok (opened_of w cap))) rep)
+  logged w cap reply.Done never = refl
   logged w cap rep never = leave_goes w rep never
 
-  log_goes : (w cap : ℕ) → Goes n OpenedSo (staged w stage.Indexed) (makes_log w cap)
+  log_goes : (w cap : ℕ) → Goes n (EntersSo w) (staged w stage.Indexed) (makes_log w cap)
   log_goes w cap = λ m next rep s so. (anything, tt, logged w cap rep (λ why is. at_it w stage.Indexed m refl so (s.reason why is).1))
 
-  indexed : (w cap : ℕ) (rep : Reply) (m next : Moment) → Stepped n m (MakeIndex w) rep next → ((why : Refusal) → rep ≡ reply.Refused why → ⊥) → (after : Fact) × IsSo n after next × Goes n OpenedSo after (if_done w (makes_log w cap) rep)
+  indexed : (w cap : ℕ) (rep : Reply) (m next : Moment) → Stepped n m (MakeIndex w) rep next → ((why : Refusal) → rep ≡ reply.Refused why → ⊥) → (after : Fact) × IsSo n after next × Goes n (EntersSo w) after (if_done w (makes_log w cap) rep)
   indexed w cap reply.Done m next s never = (staged w stage.Indexed, indexed_then w m next s, log_goes w cap)
   indexed w cap rep m next s never = (anything, tt, leave_goes w rep never)
 
-  index_goes : (w cap : ℕ) → Goes n OpenedSo (staged w stage.Housed) (makes_index w cap)
+  index_goes : (w cap : ℕ) → Goes n (EntersSo w) (staged w stage.Housed) (makes_index w cap)
   index_goes w cap = λ m next rep s so. indexed w cap rep m next s (λ why is. at_it w stage.Housed m refl so (s.reason why is).1)
 
-  housed : (w cap : ℕ) (rep : Reply) (m next : Moment) → Stepped n m (MakeHostdir w) rep next → ((why : Refusal) → rep ≡ reply.Refused why → ⊥) → (after : Fact) × IsSo n after next × Goes n OpenedSo after (if_done w (makes_index w cap) rep)
+  housed : (w cap : ℕ) (rep : Reply) (m next : Moment) → Stepped n m (MakeHostdir w) rep next → ((why : Refusal) → rep ≡ reply.Refused why → ⊥) → (after : Fact) × IsSo n after next × Goes n (EntersSo w) after (if_done w (makes_index w cap) rep)
   housed w cap reply.Done m next s never = (staged w stage.Housed, housed_then w m next s, index_goes w cap)
   housed w cap rep m next s never = (anything, tt, leave_goes w rep never)
 
-  hostdir_goes : (w cap : ℕ) → Goes n OpenedSo (staged w stage.Floored) (makes_hostdir w cap)
+  hostdir_goes : (w cap : ℕ) → Goes n (EntersSo w) (staged w stage.Floored) (makes_hostdir w cap)
   hostdir_goes w cap = λ m next rep s so. housed w cap rep m next s (λ why is. at_it w stage.Floored m refl so (s.reason why is).1)
 
-  floor_found : (w cap : ℕ) (rep : Reply) (m next : Moment) → Stepped n m (Floor w) rep next → ((why : Refusal) → rep ≡ reply.Refused why → ⊥) → (after : Fact) × IsSo n after next × Goes n OpenedSo after (if_floored w cap rep)
+  floor_found : (w cap : ℕ) (rep : Reply) (m next : Moment) → Stepped n m (Floor w) rep next → ((why : Refusal) → rep ≡ reply.Refused why → ⊥) → (after : Fact) × IsSo n after next × Goes n (EntersSo w) after (if_floored w cap rep)
   floor_found w cap (reply.Floored floor) m next s never = (staged w stage.Floored, floored_then w floor m next s, hostdir_goes w cap)
   floor_found w cap rep m next s never = (anything, tt, leave_goes w rep never)
 
-  floor_goes : (w cap : ℕ) → Goes n OpenedSo (staged w stage.Entered) (finds_floor w cap)
+  pub floor_goes : (w cap : ℕ) → Goes n (EntersSo w) (staged w stage.Entered) (finds_floor w cap)
   floor_goes w cap = λ m next rep s so. floor_found w cap rep m next s (λ why is. at_it w stage.Entered m refl so (s.reason why is).1)
 
   enter_fine : (room host cap : ℕ) (m next : Moment) (rep : Reply) (why : Refusal) → Stepped n m (Enter room host cap) rep next → IsSo n (stands room) m → rep ≡ reply.Refused why → MayRefuseOpen why
@@ -147,7 +159,7 @@ module _ (n : ℕ) where
       drawn other false is_marks check = spent (nat_le (2 ^ 32 - 1) m.state.serial) check
 
   entered_then : (room host cap : ℕ) (rep : Reply) (m next : Moment) → Stepped n m (Enter room host cap) rep next → ((why : Refusal) → rep ≡ reply.Refused why → MayRefuseOpen why) → (after : Fact) × IsSo n after next × Goes n OpenedSo after (if_entered cap rep)
-  entered_then room host cap (reply.Entered w) m next s fine = let e = entered_so n room host cap w m.state next.state s.sound.regular s.answers in (staged w stage.Entered, (e.row, e.has, e.begun), floor_goes w cap)
+  entered_then room host cap (reply.Entered w) m next s fine = let e = entered_so n room host cap w m.state next.state s.sound.regular s.answers in (staged w stage.Entered, (e.row, e.has, e.begun), goes_more n (EntersSo w) OpenedSo (opens_more w) (staged w stage.Entered) (finds_floor w cap) (floor_goes w cap))
   entered_then room host cap rep m next s fine = (anything, tt, trouble_so MayRefuseOpen rep fine)
 
   made_then : (name : Name) (host cap : ℕ) (rep : Reply) (m next : Moment) → Stepped n m (MakeContainer name) rep next → (after : Fact) × IsSo n after next × Goes n OpenedSo after (if_made host cap rep)

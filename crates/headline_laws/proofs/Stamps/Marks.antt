@@ -61,7 +61,7 @@ module _ (run : Run) (mount : Stored) (start end : State) (fits : FitsScript run
   HomeOf t = Home run run.times mount start end fits mounted tells sound right left t
 
   -- what stood in the container stands in the tree after
-  top_left : (pre post : List Event) → right.history ≡ pre ++ post → (room top : ℕ) → IsTopIn (moment_after Begins pre) room top → IsStampIn run room top
+  pub top_left : (pre post : List Event) → right.history ≡ pre ++ post → (room top : ℕ) → IsTopIn (moment_after Begins pre) room top → IsStampIn run room top
   top_left pre post is room top (inl zero_is) = inl (inl zero_is)
   top_left pre post is room top (inr (inl (size, had))) = inl (inr (size, stands_after run Begins end fits sound_begins right left pre post room (Trunc top size) is tt had))
   top_left pre post is room top (inr (inr (last, bytes, host, writer, had))) = inr (last, bytes, host, writer, stands_after run Begins end fits sound_begins right left pre post room (Meta last bytes top host writer) is tt had)

@@ -32,7 +32,8 @@ use Rattle.mount_sound.specs.Sound.{IsSoundTree}
 use Rattle.writer_laws.specs.Counting.{writes_told}
 use Rattle.writer_laws.proofs.Stops.{whole_answers}
 use Rattle.reader_laws.specs.Moments.{Dropping, IsSoundAt, Moment, moment_after}
-use Rattle.reader_laws.proofs.Gathered.Facts.{any_found, legal_first, legal_rest}
+use Rattle.plain_file.proofs.Facts.{Among}
+use Rattle.reader_laws.proofs.Gathered.Facts.{any_found, is_among, legal_first, legal_rest}
 use Rattle.script_lang.specs.Ranges.{FitsScript}
 use Rattle.script_lang.specs.declared.line.Outcome.{Outcome}
 use Rattle.script_lang.specs.declared.line.Outcome.TheVariants as line
@@ -47,19 +48,20 @@ use Rattle.headline_laws.specs.OneWriter.{OneWriter}
 use Rattle.headline_laws.specs.Opening.{Stretch}
 use Rattle.headline_laws.specs.Writing.{ShowsWriting}
 use Rattle.headline_laws.proofs.Plays.Facts.{Next}
-use Rattle.headline.specs.Run.{Run, Says, Told, before, told}
+use Rattle.headline.specs.Run.{IsLine, Run, Says, Told, before, told}
 use Rattle.headline.specs.Writers.{Account, account, account_of, cap_of, nothing, told_of}
 use Rattle.headline.specs.Changes.{IsNextStamp, IsTruncStamp, last_stamp_of, writer_at}
 use Rattle.headline_laws.proofs.Contents.Accounts.{Agrees, FromLine, account_from, at_more, entered_writes, from_line, line_goes, row_here, sound_here, starts, waited}
-use Rattle.headline_laws.proofs.Contents.AtLine.{AtLine, at_line}
+use Rattle.headline_laws.proofs.Contents.AtLine.{AtLine, at_line, own_line}
 use Rattle.headline_laws.proofs.Contents.Counted.{homes}
 use Rattle.headline_laws.proofs.Contents.Entering.{entered_behind, in_between, opens_in}
 use Rattle.headline_laws.proofs.Contents.Issues.{Halved, IsRowIn, IsWrite, halved, one_counted}
 use Rattle.headline_laws.proofs.Contents.OpenedWriter.{First, Home, Whole, its_dropping, sound_first}
 use Rattle.headline_laws.proofs.Contents.WriterLine.{IsNoWrite, WriterLine, a_write, an_opening, neither, writer_line}
 use Rattle.headline_laws.proofs.OrderlyLines.Synced.{IsOther}
-use Rattle.headline_laws.proofs.Statements.Known.{HasEntered, IsNotOpened, KeepsOld, OpensNew, entered_more, writer_step}
-use Rattle.headline_laws.proofs.Story.Parts.{PartOf}
+use Rattle.headline_laws.proofs.Statements.Known.{HasEntered, IsNotOpened, KeepsOld, OpensNew, entered_more, entered_next, writer_step}
+use Rattle.headline_laws.proofs.Story.Lines.{among_there}
+use Rattle.headline_laws.proofs.Story.Parts.{Idles, PartOf}
 use Rattle.headline_laws.proofs.Story.Shown.{IsShown, ShownEach}
 use Rattle.headline_laws.proofs.Stamps.Floors.{AreFloored, IsStandingStamp, floor_of, floored_after}
 use Rattle.headline_laws.proofs.Stamps.Times.{AreLeft, left_after, left_first, ticked}
@@ -106,7 +108,7 @@ last_issued : (ws : List Written) → last_stamp 0 (entries_in ws) ≡ last_stam
 last_issued [] = refl
 last_issued (w ∷ ws) = last_same ws 0 w
 
-row_last : (m : Moment) (sound : IsSoundAt m) (room id : ℕ) (of : IsRowIn m.state room id) → of.row.last ≡ last_stamp_of (map change_of (m.issued room id))
+pub row_last : (m : Moment) (sound : IsSoundAt m) (room id : ℕ) (of : IsRowIn m.state room id) → of.row.last ≡ last_stamp_of (map change_of (m.issued room id))
 row_last m sound room id of =
     let there = sound.sound.placed id of.row of.held in
     let kept : IsKept there.0 of.row (m.issued of.row.room id) = (sound.sound.rooms of.row.room there.0 there.1).kept id of.row of.held refl in
@@ -119,8 +121,8 @@ same_id x y is = (let equal : nat_eq x y ≡ true = sym is in grind (arith, nat_
 
 module _ (m : Moment) (sound : IsSoundAt m) (n : ℕ) (history : List Event) (blocks : List (List Event)) (whole : Next m [] history) (id cap : ℕ) (d : Dropping) (d_id : d.writer ≡ id)
     (only_its : (pre : List Event) (e : Event) (post : List Event) → history ≡ pre ++ e ∷ post → IsWrite id e → (e.caller ≡ n) × IsRowIn (moment_after m pre).state d.room id) where
-  -- as the line t begins the account of the lines before it is that of what was issued
-  record AgreesAt (t : Told) (a : Account) : Type 0 where
+  -- as the line t begins the account of the lines before it is that of what was issued, and the writer was entered
+  pub record AgreesAt (t : Told) (a : Account) : Type 0 where
     pub kept : Kept
     pub file : Option OneFile
     pub writer : Option OneWriter
@@ -128,10 +130,24 @@ module _ (m : Moment) (sound : IsSoundAt m) (n : ℕ) (history : List Event) (bl
     pub says : t.outcome ≡ p.e.outcome
     pub shown : IsShown m sound n history blocks whole kept file writer t p.earlier p.mine
     pub agrees : Agrees m sound n history blocks whole id cap d d_id only_its writer p.earlier a
+    pub known : (x : OneWriter) → writer ≡ Some x → HasEntered n p.earlier x.dropping
+
+  -- who has a writer entered it
+  abbrev IsKnown : List Event → Option OneWriter → Type 0
+  IsKnown done writer = (x : OneWriter) → writer ≡ Some x → HasEntered n done x.dropping
+
+  known_idle : (done later : List Event) (writer : Option OneWriter) → Idles n history blocks done later → IsKnown done writer → IsKnown later writer
+  known_idle done later writer i known x has = subst (λ es. HasEntered n es x.dropping) (sym i.is) (entered_more n done i.idle x.dropping (known x has))
+
+  known_line : (kept : Kept) (file : Option OneFile) (writer : Option OneWriter) (q : Told) (earlier mine : List Event) (s : IsShown m sound n history blocks whole kept file writer q earlier mine) → IsKnown earlier writer → IsKnown (earlier ++ mine) s.new_writer
+  known_line kept file writer q earlier mine s known x has =
+      let step = writer_step m n (record { before = earlier; events = s.front }) writer q.statement q.outcome s.new_writer s.writes in
+      let then_entered : HasEntered n (earlier ++ s.front) x.dropping = entered_next m n earlier s.front q.statement q.outcome writer s.new_writer step known x has in
+      subst (λ es. HasEntered n (earlier ++ es) x.dropping) (sym s.split) (subst (λ es. HasEntered n es x.dropping) (append_assoc earlier s.front s.rest) (entered_more n (earlier ++ s.front) s.rest x.dropping then_entered))
 
   account_at : (done : List Event) (kept : Kept) (file : Option OneFile) (writer : Option OneWriter) (ts : List Told) (t : Told) (rest : List Told) (a : Account) → ShownEach m sound n history blocks whole done kept file writer (ts ++ t ∷ rest) → HasEntered n done d
-      → Agrees m sound n history blocks whole id cap d d_id only_its writer done a → AgreesAt t (account_of id cap a ts)
-  account_at done kept file writer [] t rest a (p, says, idle, s, more) entered agrees = record {
+      → Agrees m sound n history blocks whole id cap d d_id only_its writer done a → IsKnown done writer → AgreesAt t (account_of id cap a ts)
+  account_at done kept file writer [] t rest a (p, says, idle, s, more) entered agrees known = record {
     kept = kept;
     file = file;
     writer = writer;
@@ -139,12 +155,13 @@ module _ (m : Moment) (sound : IsSoundAt m) (n : ℕ) (history : List Event) (bl
     says = says;
     shown = s;
     agrees = waited m sound n history blocks whole id cap d d_id only_its done p.earlier (p.mine ++ p.later) p.split idle writer a agrees;
+    known = known_idle done p.earlier writer idle known;
   }
-  account_at done kept file writer (q ∷ ts) t rest a (p, says, idle, s, more) entered agrees =
+  account_at done kept file writer (q ∷ ts) t rest a (p, says, idle, s, more) entered agrees known =
       let here = waited m sound n history blocks whole id cap d d_id only_its done p.earlier (p.mine ++ p.later) p.split idle writer a agrees in
-      let known : HasEntered n p.earlier d = subst (λ es. HasEntered n es d) (sym idle.is) (entered_more n done idle.idle d entered) in
-      account_at (p.earlier ++ p.mine) p.e.kept s.new s.new_writer ts t rest (told_of id cap a q.statement q.outcome) more (entered_more n p.earlier p.mine d known)
-      (line_goes m sound n history blocks whole id cap d d_id only_its kept file writer q p says s a known here)
+      let entered_here : HasEntered n p.earlier d = subst (λ es. HasEntered n es d) (sym idle.is) (entered_more n done idle.idle d entered) in
+      account_at (p.earlier ++ p.mine) p.e.kept s.new s.new_writer ts t rest (told_of id cap a q.statement q.outcome) more (entered_more n p.earlier p.mine d entered_here)
+      (line_goes m sound n history blocks whole id cap d d_id only_its kept file writer q p says s a entered_here here) (known_line kept file writer q p.earlier p.mine s (known_idle done p.earlier writer idle known))
 
   -- where its line tells of a write, an event of its part wrote these bytes, and the row's last stamp is that of the account
   record WroteSo (a : Account) (place len stamp : ℕ) : Type 0 where
@@ -235,38 +252,37 @@ module _ (run : Run) (mount : Stored) (start end : State) (fits : FitsScript run
   times_left pre e post is = left_after run.times Begins pre (legal_first Begins pre (e ∷ post) (lawful_to pre e post is)) (left_first run.times mount start mounted)
 
   -- a row's floor is a stamp that stands in the tree after
-  floor_left : (pre : List Event) (e : Event) (post : List Event) → right.history ≡ pre ++ e ∷ post → (room id : ℕ) (of : IsRowIn (moment_after Begins pre).state room id) → IsTruncStamp run room of.row.floor
-  floor_left pre e post is room id of = subst (λ r. IsTruncStamp run r of.row.floor) of.here (by (floor_of (moment_after Begins pre) id of.row of.held all))
+  pub floor_left : (pre rest : List Event) → right.history ≡ pre ++ rest → (room id : ℕ) (of : IsRowIn (moment_after Begins pre).state room id) → IsTruncStamp run room of.row.floor
+  floor_left pre rest is room id of = subst (λ r. IsTruncStamp run r of.row.floor) of.here (by (floor_of (moment_after Begins pre) id of.row of.held all))
     where
       all : AreFloored (IsStandingStamp (moment_after Begins pre)) (moment_after Begins pre).state.table.writers
-      all = floored_after Begins pre sound_begins (legal_first Begins pre (e ∷ post) (lawful_to pre e post is)) (subst (AreFloored (IsStandingStamp Begins)) (sym mounted.no_writers) tt)
+      all = floored_after Begins pre sound_begins (legal_first Begins pre rest (subst (IsLawful Begins.state) is right.leads.lawful)) (subst (AreFloored (IsStandingStamp Begins)) (sym mounted.no_writers) tt)
 
       by : IsStandingStamp (moment_after Begins pre) of.row.room of.row.floor → IsTruncStamp run of.row.room of.row.floor
       by (inl zero_is) = inl zero_is
-      by (inr (size, had)) = inr (size, stands_after run Begins end fits sound_begins right left pre (e ∷ post) of.row.room (Trunc of.row.floor size) is tt had)
+      by (inr (size, had)) = inr (size, stands_after run Begins end fits sound_begins right left pre rest of.row.room (Trunc of.row.floor size) is tt had)
 
-  module _ (t : Told) (at len stamp id : ℕ) (says : Says run t (line.Wrote at len (Some stamp))) (its : writer_at run t ≡ Some id) where
-    abbrev Account_here : Account
+  module _ (t : Told) (id : ℕ) (is_line : IsLine run t) (its : writer_at run t ≡ Some id) where
+    abbrev pub Account_here : Account
     Account_here = account run t.actor id (before run t)
 
-    -- the dropping of the writer, and the write
-    record ByLine : Type 0 where
+    -- the dropping of the writer, and where the part of the line begins
+    pub record HasAccount : Type 0 where
       pub number : ℕ
+      pub cap : ℕ
       pub d : Dropping
       pub d_id : d.writer ≡ id
       pub entered : HasEntered number right.history d
-      pub pre : List Event
-      pub e : Event
-      pub post : List Event
-      pub is : right.history ≡ pre ++ e ∷ post
-      pub row : IsRowIn (moment_after Begins pre).state d.room id
-      pub last : row.row.last ≡ last_stamp_of Account_here.writes
-      pub stamped : IsStamped (moment_after Begins pre).state row.row at len stamp
+      pub latest : Account_here.latest ≡ true
+      pub at : AgreesAt Begins sound_begins number right.history right.calls.blocks WholeOf id cap d d_id (entered_writes run Begins end fits sound_begins right number id d d_id entered) t Account_here
+      -- the line that opened it
+      pub o : Told
+      pub opens : Says run o (line.Opened id)
 
-    by_line : ByLine
-    by_line = by (at_line run run.times mount start end fits mounted tells sound right left t id says.is_line its)
+    pub has_account : HasAccount
+    has_account = by (at_line run run.times mount start end fits mounted tells sound right left t id is_line its)
       where
-        by : AtLine run run.times mount start end fits mounted tells sound right left t id → ByLine
+        by : AtLine run run.times mount start end fits mounted tells sound right left t id → HasAccount
         by k = opened (writer_step Begins n (record { before = f.part.earlier; events = f.shown.front }) f.writer k.o.statement k.o.outcome f.shown.new_writer f.shown.writes)
           where
             n : ℕ
@@ -287,9 +303,22 @@ module _ (run : Run) (mount : Stored) (start end : State) (fits : FitsScript run
             same : (x y : ℕ) → line.Opened x ≡ line.Opened y → x ≡ y
             same x y is = cc
 
-            opened : OpensNew Begins n (record { before = f.part.earlier; events = f.shown.front }) k.o.statement k.o.outcome f.shown.new_writer ⊎ KeepsOld f.writer k.o.outcome f.shown.new_writer → ByLine
+            same_one : (x y : OneWriter) → Some x ≡ Some y → x ≡ y
+            same_one x y is = cc
+
+            opened : OpensNew Begins n (record { before = f.part.earlier; events = f.shown.front }) k.o.statement k.o.outcome f.shown.new_writer ⊎ KeepsOld f.writer k.o.outcome f.shown.new_writer → HasAccount
             opened (inr keeps) = absurd (subst IsNotOpened k.opens keeps.not_opened)
-            opened (inl opens) = found (wrote_so Begins sound_begins n right.history right.calls.blocks WholeOf id cap d d_id only_its t (account_of id cap (nothing true) k.between) latest agrees at len stamp says.says)
+            opened (inl opens) = record {
+              number = n;
+              cap = cap;
+              d = d;
+              d_id = d_id;
+              entered = entered;
+              latest = ap (λ (a : Account). a.latest) k.account_so ∙ k.latest;
+              at = subst (λ a. AgreesAt Begins sound_begins n right.history right.calls.blocks WholeOf id cap d d_id (entered_writes run Begins end fits sound_begins right n id d d_id entered) t a) (sym account_is) agrees;
+              o = k.o;
+              opens = record { is_line = is_among (told run) k.o (own_line t.actor (told run) k.o (subst (Among k.o) (sym k.all_is) (among_there k.o k.pre (k.between ++ t ∷ k.rest)))); says = k.opens };
+            }
               where
                 d : Dropping
                 d = opens.it.dropping
@@ -303,35 +332,51 @@ module _ (run : Run) (mount : Stored) (start end : State) (fits : FitsScript run
                 entered : HasEntered n right.history d
                 entered = subst (λ es. HasEntered n es d) (sym f.part.split) (entered_behind n f.part.earlier (f.part.mine ++ f.part.later) d (entered_more n f.part.mine f.part.later d mine))
 
-                only_its : (pre : List Event) (e : Event) (post : List Event) → right.history ≡ pre ++ e ∷ post → IsWrite id e → (e.caller ≡ n) × IsRowIn (moment_after Begins pre).state d.room id
-                only_its = entered_writes run Begins end fits sound_begins right n id d d_id entered
+                agrees : AgreesAt Begins sound_begins n right.history right.calls.blocks WholeOf id cap d d_id (entered_writes run Begins end fits sound_begins right n id d d_id entered) t (account_of id cap (nothing true) k.between)
+                agrees = account_at Begins sound_begins n right.history right.calls.blocks WholeOf id cap d d_id (entered_writes run Begins end fits sound_begins right n id d d_id entered) (f.part.earlier ++ f.part.mine) f.part.e.kept f.shown.new f.shown.new_writer k.between t k.rest (nothing true) f.more (entered_behind n f.part.earlier f.part.mine d mine)
+                    (starts Begins sound_begins n right.history right.calls.blocks WholeOf id cap d d_id (entered_writes run Begins end fits sound_begins right n id d d_id entered) f.kept f.file f.writer k.o f.part f.says f.shown (subst IsNoWrite (sym opens.asked) tt) opens.it opens.has d_id mine)
+                    (λ x has. subst (λ (y : OneWriter). HasEntered n (f.part.earlier ++ f.part.mine) y.dropping) (same_one opens.it x (sym opens.has ∙ has)) (entered_behind n f.part.earlier f.part.mine d mine))
 
-                agrees : AgreesAt Begins sound_begins n right.history right.calls.blocks WholeOf id cap d d_id only_its t (account_of id cap (nothing true) k.between)
-                agrees = account_at Begins sound_begins n right.history right.calls.blocks WholeOf id cap d d_id only_its (f.part.earlier ++ f.part.mine) f.part.e.kept f.shown.new f.shown.new_writer k.between t k.rest (nothing true) f.more (entered_behind n f.part.earlier f.part.mine d mine)
-                    (starts Begins sound_begins n right.history right.calls.blocks WholeOf id cap d d_id only_its f.kept f.file f.writer k.o f.part f.says f.shown (subst IsNoWrite (sym opens.asked) tt) opens.it opens.has d_id mine)
+  module _ (t : Told) (at len stamp id : ℕ) (says : Says run t (line.Wrote at len (Some stamp))) (its : writer_at run t ≡ Some id) where
+    -- the dropping of the writer, and the write
+    record ByLine : Type 0 where
+      pub number : ℕ
+      pub d : Dropping
+      pub d_id : d.writer ≡ id
+      pub entered : HasEntered number right.history d
+      pub pre : List Event
+      pub e : Event
+      pub post : List Event
+      pub is : right.history ≡ pre ++ e ∷ post
+      pub row : IsRowIn (moment_after Begins pre).state d.room id
+      pub last : row.row.last ≡ last_stamp_of (account run t.actor id (before run t)).writes
+      pub stamped : IsStamped (moment_after Begins pre).state row.row at len stamp
 
-                latest : (account_of id cap (nothing true) k.between).latest ≡ true
-                latest = ap (λ (a : Account). a.latest) (sym account_is ∙ k.account_so) ∙ k.latest
-
-                found : WroteSo Begins sound_begins n right.history right.calls.blocks WholeOf id cap d d_id only_its (account_of id cap (nothing true) k.between) at len stamp → ByLine
-                found w =
-                    let lawful : IsLawful (moment_after Begins w.pre).state (w.e ∷ w.post) = legal_rest Begins w.pre (w.e ∷ w.post) (lawful_to w.pre w.e w.post w.is) in
-                    let answers : Answers (moment_after Begins w.pre).state w.e.caller w.e.ask.call w.e.reply w.e.after = whole_answers (moment_after Begins w.pre).state w.e.caller w.e.ask w.e.reply w.e.after (ap (λ (q : Ask). q.stop) w.asked) lawful.1 in
-                    let wrote : Answers (moment_after Begins w.pre).state w.e.caller (Write id w.at w.bytes) (Wrote stamp) w.e.after =
-                    subst (λ r. Answers (moment_after Begins w.pre).state w.e.caller (Write id w.at w.bytes) r w.e.after) w.told_so (subst (λ c. Answers (moment_after Begins w.pre).state w.e.caller c w.e.reply w.e.after) (ap (λ (q : Ask). q.call) w.asked) answers) in
-                    record {
-                      number = n;
-                      d = d;
-                      d_id = d_id;
-                      entered = entered;
-                      pre = w.pre;
-                      e = w.e;
-                      post = w.post;
-                      is = w.is;
-                      row = w.row;
-                      last = w.last ∙ ap (λ (a : Account). last_stamp_of a.writes) (sym account_is);
-                      stamped = subst (λ k. IsStamped (moment_after Begins w.pre).state w.row.row k len stamp) (sym w.place_is) (subst (λ k. IsStamped (moment_after Begins w.pre).state w.row.row w.at k stamp) (sym w.len_is) (write_stamped w.e.caller id w.at w.bytes stamp (moment_after Begins w.pre).state w.e.after wrote w.row.row w.row.held));
-                    }
+    by_line : ByLine
+    by_line = by (has_account t id says.is_line its)
+      where
+        by : HasAccount t id says.is_line its → ByLine
+        by k = found (wrote_so Begins sound_begins k.number right.history right.calls.blocks WholeOf id k.cap k.d k.d_id (entered_writes run Begins end fits sound_begins right k.number id k.d k.d_id k.entered) t (account run t.actor id (before run t)) k.latest k.at at len stamp says.says)
+          where
+            found : WroteSo Begins sound_begins k.number right.history right.calls.blocks WholeOf id k.cap k.d k.d_id (entered_writes run Begins end fits sound_begins right k.number id k.d k.d_id k.entered) (account run t.actor id (before run t)) at len stamp → ByLine
+            found w =
+                let lawful : IsLawful (moment_after Begins w.pre).state (w.e ∷ w.post) = legal_rest Begins w.pre (w.e ∷ w.post) (lawful_to w.pre w.e w.post w.is) in
+                let answers : Answers (moment_after Begins w.pre).state w.e.caller w.e.ask.call w.e.reply w.e.after = whole_answers (moment_after Begins w.pre).state w.e.caller w.e.ask w.e.reply w.e.after (ap (λ (q : Ask). q.stop) w.asked) lawful.1 in
+                let wrote : Answers (moment_after Begins w.pre).state w.e.caller (Write id w.at w.bytes) (Wrote stamp) w.e.after =
+                subst (λ r. Answers (moment_after Begins w.pre).state w.e.caller (Write id w.at w.bytes) r w.e.after) w.told_so (subst (λ c. Answers (moment_after Begins w.pre).state w.e.caller c w.e.reply w.e.after) (ap (λ (q : Ask). q.call) w.asked) answers) in
+                record {
+                  number = k.number;
+                  d = k.d;
+                  d_id = k.d_id;
+                  entered = k.entered;
+                  pre = w.pre;
+                  e = w.e;
+                  post = w.post;
+                  is = w.is;
+                  row = w.row;
+                  last = w.last;
+                  stamped = subst (λ z. IsStamped (moment_after Begins w.pre).state w.row.row z len stamp) (sym w.place_is) (subst (λ z. IsStamped (moment_after Begins w.pre).state w.row.row w.at z stamp) (sym w.len_is) (write_stamped w.e.caller id w.at w.bytes stamp (moment_after Begins w.pre).state w.e.after wrote w.row.row w.row.held));
+                }
 
     fits_so : (row : Row) (time : ℕ) → stamp ≡ next_stamp time row.last row.floor → MayWrite row at len → stamp ≤ MAX_STAMP
     fits_so row time is may =
@@ -350,7 +395,7 @@ module _ (run : Run) (mount : Stored) (start end : State) (fits : FitsScript run
         time = w.stamped.time;
         clock = (ticked run.times (moment_after Begins w.pre).state.times w.stamped.times w.stamped.time (times_left w.pre w.e w.post w.is) w.stamped.ticks).1;
         stood = w.row.row.floor;
-        is_there = subst (λ r. IsTruncStamp run r w.row.row.floor) room (floor_left w.pre w.e w.post w.is w.d.room id w.row);
+        is_there = subst (λ r. IsTruncStamp run r w.row.row.floor) room (floor_left w.pre (w.e ∷ w.post) w.is w.d.room id w.row);
         is = w.stamped.is ∙ ap (λ l. next_stamp w.stamped.time l w.row.row.floor) w.last;
         fits = fits_so w.row.row w.stamped.time w.stamped.is w.stamped.may;
       });

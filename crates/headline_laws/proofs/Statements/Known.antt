@@ -191,7 +191,7 @@ its_next m n stretch w s o old new (inr keeps) known id is x has =
     let k = keeps.same x has in
     ap (λ (d : Dropping). d.writer) k.2 ∙ known id (same_next w s o id keeps.not_opened is) k.0 k.1
 
-entered_next : (m : Moment) (n : ℕ) (before events : List Event) (s : Statement) (o : Outcome) (old new : Option OneWriter) → OpensNew m n (record { before = before; events = events }) s o new ⊎ KeepsOld old o new → ((x : OneWriter) → old ≡ Some x → HasEntered n before x.dropping)
+pub entered_next : (m : Moment) (n : ℕ) (before events : List Event) (s : Statement) (o : Outcome) (old new : Option OneWriter) → OpensNew m n (record { before = before; events = events }) s o new ⊎ KeepsOld old o new → ((x : OneWriter) → old ≡ Some x → HasEntered n before x.dropping)
     → (x : OneWriter) → new ≡ Some x → HasEntered n (before ++ events) x.dropping
 entered_next m n before events s o old new (inl opens) known x has = subst (λ (y : OneWriter). HasEntered n (before ++ events) y.dropping) (same_some opens.it x (sym opens.has ∙ has)) (opens_entered m n before events opens.name opens.it opens.opens)
 entered_next m n before events s o old new (inr keeps) known x has =

@@ -43,7 +43,7 @@ use Rattle.headline_laws.proofs.Statements.LivingLines.{GoesOn}
 use Rattle.headline_laws.proofs.Statements.SureLines.{SureAt, sure_at, sure_writing}
 use Rattle.headline_laws.proofs.Story.Attributed.{either_part, tail_of}
 use Rattle.headline_laws.proofs.Story.Lines.{ChainOf, chain_of, line_here, writing_append}
-use Rattle.headline_laws.proofs.Story.Ordered.{Front, IsBehind, Ordered, begun_first, has_begun, own_ordered, sooner_is}
+use Rattle.headline_laws.proofs.Story.Ordered.{Front, IsBehind, Ordered, begun_first, has_begun, not_behind, own_ordered}
 use Rattle.headline_laws.proofs.Story.Shown.{ShownEach}
 use Rattle.headline_laws.proofs.Trees.WriterStands.{was_open}
 
@@ -259,16 +259,12 @@ module _ (run : Run) (times : Option (List ℕ)) (mount : Stored) (start end : S
           by (inl at) = in_front (in_part s Earlier (o ∷ u) (subst (Among s) front_is at))
           by (inr at) = absurd (clashes (surely_before run t s) (on (surely_before run t s) (at_one (λ (z : Told). has_begun run free t z ≡ false) f.rest s f.bad at)) begun)
 
-      either_so : surely_before run o t ≡ true → Either
-      either_so sooner = by (either_part f.front f.rest Earlier o post (sym f.is ∙ split))
+      either_so : surely_before run t o ≡ false → Either
+      either_so early = by (either_part f.front f.rest Earlier o post (sym f.is ∙ split))
         where
           -- it began before the line t did
           o_begun : has_begun run free t o ≡ true
-          o_begun = by_false (surely_before run t o) refl
-            where
-              by_false : (y : Bool) → surely_before run t o ≡ y → not (surely_before run t o) ≡ true
-              by_false false is = ap not is
-              by_false true is = (let far = (sooner_is run free t t o is).0 in let near = (sooner_is run free t o t sooner).0 in absurd (omega (arith, far, near)))
+          o_begun = ap not early
 
           by : ((u : List Told) × (f.front ≡ Earlier ++ o ∷ u) × (post ≡ u ++ f.rest)) ⊎ ((u : List Told) × (Earlier ≡ f.front ++ u) × (f.rest ≡ u ++ o ∷ post)) → Either
           by (inr (u, earlier_is, rest_is)) = absurd (clashes (has_begun run free t o) o_begun (at_one (λ (z : Told). has_begun run free t z ≡ false) f.rest o f.bad (subst (Among o) (sym rest_is) (among_right o u (o ∷ post) (inl refl)))))
@@ -282,20 +278,20 @@ module _ (run : Run) (times : Option (List ℕ)) (mount : Stored) (start end : S
               from (inr dead) = inr dead
 
     -- the law of this file
-    pub still_or_dead : surely_before run o t ≡ true → IsStillOpen run t o ⊎ MayBeDead run t o.actor id
-    still_or_dead sooner = (let its = own_split run o (among (told run) o opened.is_line) in either_so its.rest its.is sooner)
+    pub still_or_dead : surely_before run t o ≡ false → IsStillOpen run t o ⊎ MayBeDead run t o.actor id
+    still_or_dead early = (let its = own_split run o (among (told run) o opened.is_line) in either_so its.rest its.is early)
 
   -- ---- what follows for recoveries
 
   pub recoveries_end : run.in_order ≡ false → (story : Story) → HasRecovered run story → HasEnded run story
   recoveries_end free story recovered = record {
-    dead = λ t o out alive hold b says at opened home sooner. died t o out alive hold b says at opened home sooner (still_or_dead free t o b.writer opened sooner);
-    all_named = λ t o out alive id says opened home sooner lives. found t o out alive id says opened home sooner lives (still_or_dead free t o id opened sooner);
+    dead = λ t o out alive hold b says at opened home early. died t o out alive hold b says at opened home early (still_or_dead free t o b.writer opened early);
+    all_named = λ t o out alive id says opened home sooner lives. found t o out alive id says opened home sooner lives (still_or_dead free t o id opened (not_behind run free t o t sooner));
   }
     where
-      died : (t o : Told) (out : List WriterCount) (alive : List ℕ) (hold : Bool) (b : WriterCount) → Says run t (line.Recovered out alive hold) → IsAmong b out → Says run o (line.Opened b.writer) → story.of o ≡ story.of t → surely_before run o t ≡ true → IsStillOpen run t o ⊎ MayBeDead run t o.actor b.writer → MayBeDead run t o.actor b.writer
-      died t o out alive hold b says at opened home sooner (inl still) = absurd ((all_at (TakesOut run story t) out b (recovered.taken_out t out alive hold says) (among out b at)).dead o opened.is_line opened.says home sooner still)
-      died t o out alive hold b says at opened home sooner (inr dead) = dead
+      died : (t o : Told) (out : List WriterCount) (alive : List ℕ) (hold : Bool) (b : WriterCount) → Says run t (line.Recovered out alive hold) → IsAmong b out → Says run o (line.Opened b.writer) → story.of o ≡ story.of t → surely_before run t o ≡ false → IsStillOpen run t o ⊎ MayBeDead run t o.actor b.writer → MayBeDead run t o.actor b.writer
+      died t o out alive hold b says at opened home early (inl still) = absurd ((all_at (TakesOut run story t) out b (recovered.taken_out t out alive hold says) (among out b at)).dead o opened.is_line opened.says home early still)
+      died t o out alive hold b says at opened home early (inr dead) = dead
 
       found : (t o : Told) (out : List WriterCount) (alive : List ℕ) (id : ℕ) → Says run t (line.Recovered out alive false) → Says run o (line.Opened id) → story.of o ≡ story.of t → surely_before run o t ≡ true → (MayBeDead run t o.actor id → ⊥) → IsStillOpen run t o ⊎ MayBeDead run t o.actor id → IsAmong id alive
       found t o out alive id says opened home sooner lives (inl still) = recovered.named t o out alive false id says opened home sooner still

@@ -1,5 +1,5 @@
 -- Each call of the history that makes a container, writes, truncates or renames is one of an actor, made in the part of one of its lines, whose statement may ask it.
-use Rattle.std.proofs.Common.{◌≡◌, ◌≤◌, ◌⊎◌, ◌+◌, inl, inr, ℕ, zero, suc, Bool, true, false, List, [], ◌∷◌, ◌++◌, length, Option, Some, None, refl, sym, ap, ◌∙◌, subst, arith, append_assoc, length-append, nat_eq, if◌then◌else◌}
+use Rattle.std.proofs.Common.{◌≡◌, ◌≤◌, ◌⊎◌, ◌+◌, ◌||◌, inl, inr, ℕ, zero, suc, Bool, true, false, List, [], ◌∷◌, ◌++◌, length, Option, Some, None, refl, sym, ap, ◌∙◌, subst, arith, append_assoc, length-append, nat_eq, nat_lt, if◌then◌else◌}
 use Rattle.std.specs.Prelude.{slice_get}
 use Rattle.std.specs.List.{Any}
 use Rattle.std.proofs.lemmas.Bool.Decides.{nat_tests}
@@ -38,15 +38,17 @@ use Rattle.headline_laws.specs.OneFile.{OneFile}
 use Rattle.headline_laws.specs.OneWriter.{OneWriter}
 use Rattle.headline_laws.specs.Opening.{Stretch}
 use Rattle.headline_laws.specs.Writing.{ShowsWriting}
-use Rattle.headline.specs.Run.{IsLine, Run, Told, own, phased, told}
-use Rattle.headline.specs.Files.{reader_next}
+use Rattle.headline.specs.Run.{IsLine, Run, Told, own, phased, surely_before, told}
+use Rattle.headline.specs.Files.{reader_at, reader_next}
 use Rattle.headline.specs.Writers.{host_of}
-use Rattle.headline.specs.Changes.{Writing, none, writing_next}
+use Rattle.headline.specs.Changes.{Writing, none, writing_at, writing_next}
 use Rattle.headline_laws.proofs.OrderlyLines.Answering.{among_filter, among_own, own_actor, own_rise}
 use Rattle.headline_laws.proofs.OrderlyLines.Places.{Rise, among_later, beside_rise}
 use Rattle.headline_laws.proofs.Statements.Hosts.{SameHost, comes_so, statement_host}
 use Rattle.headline_laws.proofs.Statements.Known.{Known, known_next, known_waits, writer_step}
-use Rattle.headline_laws.proofs.Story.Lines.{AnyLine, HasRooms, ShownLine, chain_here, container, nothing_known, reads_in, whole_history}
+use Rattle.headline_laws.proofs.Story.Apart.{both_true, is_less, is_same, one_true}
+use Rattle.headline_laws.proofs.Story.Lines.{AnyLine, HasRooms, ShownLine, chain_here, container, line_here, nothing_known, reads_in, whole_history}
+use Rattle.headline_laws.proofs.Story.Parts.{LinePart, phases_apart}
 use Rattle.headline_laws.proofs.Story.Quiet.{AllQuiet, AreQuiet, all_quiet, through_quiet}
 use Rattle.headline_laws.proofs.Story.Shown.{ShownEach}
 
@@ -373,3 +375,21 @@ module _ (run : Run) (m : Moment) (end : State) (fits : FitsScript run.script) (
           | inr far ↦ inr far
         ];
       }
+
+  -- where a line surely ended before the line of the call began, its part ends before the call
+  pub ends_before : (pre : List Event) (e : Event) (a : Attributed pre e) (t : Told) → IsLine run t → run.in_order ≡ false → surely_before run t a.t ≡ true → LineBy t (length pre)
+  ends_before pre e a t is_line free sooner =
+      let places = both_true (nat_lt t.place a.t.place) (run.in_order || nat_lt t.phase a.t.phase || nat_eq t.actor a.t.actor) sooner in
+      let front = ap length a.before_is ∙ length-append a.line.line.part.earlier a.first in
+      elim (one_true run.in_order (nat_lt t.phase a.t.phase) (nat_eq t.actor a.t.actor) free places.1) as (λ _. LineBy t (length pre)) [
+        | inl phases ↦
+            let l = line_here run m end fits sound right t is_line in
+            let p : LinePart l.number right.history right.calls.blocks t = record { kept = l.line.kept; part = l.line.part; says = l.line.says } in
+            let q : LinePart a.line.number right.history right.calls.blocks a.t = record { kept = a.line.line.kept; part = a.line.line.part; says = a.line.line.says } in
+            let apart = phases_apart l.number a.line.number right.history right.calls.blocks t a.t p q (is_less t.phase a.t.phase phases) in
+            record { reader = reader_at run t; writing = writing_at run t; line = l; ends = omega (arith, apart, front) }
+        | inr same ↦ elim (a.sooner t is_line (is_same t.actor a.t.actor same)) as (λ _. LineBy t (length pre)) [
+          | inr far ↦ let near = is_less t.place a.t.place places.0 in absurd (omega (arith, far, near))
+          | inl l ↦ let ends = l.ends in record { reader = l.reader; writing = l.writing; line = l.line; ends = omega (arith, ends, front) }
+        ]
+      ]

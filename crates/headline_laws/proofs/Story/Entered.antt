@@ -33,12 +33,12 @@ not_refused : (why : Refusal) (w : ℕ) (rep : Reply) → rep ≡ Refused why �
 not_refused why w rep e f = cc
 
 -- it is the next one, which was drawn then
-record Draws (old new : State) (w : ℕ) : Type 0 where
+pub record Draws (old new : State) (w : ℕ) : Type 0 where
   pub is_next : w ≡ next_id old
   pub drawn : new.serial ≡ old.serial + 1
   pub mount : new.mount ≡ old.mount
 
-enter_draws : (n room host most w : ℕ) (old : State) (rep : Reply) (new : State) → rep ≡ Entered w → Answers old n (Enter room host most) rep new → Draws old new w
+pub enter_draws : (n room host most w : ℕ) (old : State) (rep : Reply) (new : State) → rep ≡ Entered w → Answers old n (Enter room host most) rep new → Draws old new w
 enter_draws n room host most w old rep new said a = elim (match_cases (draw_check old room) (EntersAs n room host most old rep new) (λ why. Refuses why old rep new) a) as (λ _. Draws old new w) [
   | inl (no_reason, f) ↦ record {
     is_next = sym (entered_number (entered old n room host most) old.table f.makes.told w (sym f.makes.answered ∙ said));
@@ -50,7 +50,7 @@ enter_draws n room host most w old rep new said a = elim (match_cases (draw_chec
 
 -- ---- along a history
 
-same_answers : (old : State) (event : Event) (n room host most : ℕ) → IsStep old event.caller event.ask event.reply event.after → event.caller ≡ n → event.ask ≡ unbroken (Enter room host most) → Answers old n (Enter room host most) event.reply event.after
+pub same_answers : (old : State) (event : Event) (n room host most : ℕ) → IsStep old event.caller event.ask event.reply event.after → event.caller ≡ n → event.ask ≡ unbroken (Enter room host most) → Answers old n (Enter room host most) event.reply event.after
 same_answers old event n room host most step own asked =
     subst (λ c. Answers old n c event.reply event.after) (ap (λ (a : Ask). a.call) asked) (subst (λ k. Answers old k event.ask.call event.reply event.after) own (whole_answers old event.caller event.ask event.reply event.after (ap (λ (a : Ask). a.stop) asked) step))
 

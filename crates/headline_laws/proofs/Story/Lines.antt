@@ -16,6 +16,7 @@ use Rattle.script_lang.specs.Ranges.{FitsNumbered, FitsPhase, FitsScript, FitsSt
 use Rattle.script_lang.specs.declared.line.Line.{Line}
 use Rattle.script_lang.specs.declared.line.Outcome.{Outcome}
 use Rattle.script_lang.specs.declared.line.Outcome.TheVariants as line
+use Rattle.script_lang.specs.declared.line.Why.TheVariants.{Busy, StampsSpent}
 use Rattle.script_lang.specs.declared.script.ActorDecl.{ActorDecl}
 use Rattle.script_lang.specs.declared.script.Numbered.{Numbered}
 use Rattle.script_lang.specs.declared.script.Phase.{Phase}
@@ -100,12 +101,16 @@ first_entered nothing (e ∷ events) = entered_or e.ask.call (first_entered noth
 abbrev pub entered_room : ℕ → ℕ → List Event → ℕ
 entered_room n nothing events = first_entered nothing (made_by n events)
 
--- a truncate that broke off speaks of the container that it held, and an opening of the one that it entered
+-- A truncate that broke off speaks of the container that it held, an opening of the one that it entered, and what is refused as busy of the one that it was to hold.
+-- One that no stamp was left for speaks of the one in which the last stands.
 abbrev pub changed_room : (m : Moment) (n : ℕ) (stretch : Stretch) → ℕ → (file new : Option OneFile) (s : Statement) (o : Outcome) → Shows m n stretch file s o new → ℕ
 changed_room m n stretch nothing file new (Stat name) (line.Stat size stored shares truncs) shows = shows.1.0.room
 changed_room m n stretch nothing file new (Trunc name size) (line.Truncated stamp) shows = shows.1.change.room
+changed_room m n stretch nothing file new (Trunc name size) (line.Refused StampsSpent) shows = shows.1.change.room
 changed_room m n stretch nothing file new (Trunc name size) line.Fault shows = held_room n nothing stretch.events
 changed_room m n stretch nothing file new (Trunc name size) line.Stopped shows = held_room n nothing stretch.events
+changed_room m n stretch nothing file new (Trunc name size) (line.Refused (Busy host id)) shows = shows.1.attempt.room
+changed_room m n stretch nothing file new (Rename name to) (line.Refused (Busy host id)) shows = shows.1.attempt.room
 changed_room m n stretch nothing file new (Open name) line.Fault shows = entered_room n nothing stretch.events
 changed_room m n stretch nothing file new (Open name) line.Stopped shows = entered_room n nothing stretch.events
 changed_room m n stretch nothing file new (Rename name to) line.Renamed shows = shows.1.change.room
@@ -214,7 +219,7 @@ same_head a b xs ys same = cc
 same_tail : (a b : Told) (xs ys : List Told) → a ∷ xs ≡ b ∷ ys → xs ≡ ys
 same_tail a b xs ys same = cc
 
-among_there : (t : Told) (us vs : List Told) → Among t (us ++ t ∷ vs)
+pub among_there : (t : Told) (us vs : List Told) → Among t (us ++ t ∷ vs)
 among_there t [] vs = inl refl
 among_there t (u ∷ us) vs = inr (among_there t us vs)
 
@@ -326,7 +331,7 @@ module _ (run : Run) (m : Moment) (end : State) (fits : FitsScript run.script) (
     pub behind : length one.line.part.earlier + length one.line.part.mine ≤ length other.line.part.earlier
 
   -- a later line of the actor stands behind
-  stands_behind : (s t : Told) (xs ys : List Told) (place : ℕ) → Rise place (xs ++ s ∷ ys) → s.place < t.place → Among t (xs ++ s ∷ ys) → Among t ys
+  pub stands_behind : (s t : Told) (xs ys : List Told) (place : ℕ) → Rise place (xs ++ s ∷ ys) → s.place < t.place → Among t (xs ++ s ∷ ys) → Among t ys
   stands_behind s t [] ys place rise far (inl same) = let is : t.place ≡ s.place = ap (λ (z : Told). z.place) same in absurd (omega (arith, is, far))
   stands_behind s t [] ys place rise far (inr at) = at
   stands_behind s t (x ∷ xs) ys place rise far (inl same) =

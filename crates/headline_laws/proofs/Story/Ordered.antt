@@ -156,6 +156,14 @@ module _ (run : Run) (free : run.in_order ≡ false) (t : Told) where
   is_sooner s r far (inl phases) = and_true (nat_lt s.place r.place) (run.in_order || nat_lt s.phase r.phase || nat_eq s.actor r.actor) (less_true s.place r.place far) (or_second run.in_order (nat_lt s.phase r.phase) (nat_eq s.actor r.actor) (less_true s.phase r.phase phases))
   is_sooner s r far (inr same) = and_true (nat_lt s.place r.place) (run.in_order || nat_lt s.phase r.phase || nat_eq s.actor r.actor) (less_true s.place r.place far) (or_third run.in_order (nat_lt s.phase r.phase) (nat_eq s.actor r.actor) (same_true s.actor r.actor same))
 
+  -- what is before isn't behind
+  pub not_behind : (s r : Told) → surely_before run s r ≡ true → surely_before run r s ≡ false
+  not_behind s r sooner = by (surely_before run r s) refl
+    where
+      by : (x : Bool) → surely_before run r s ≡ x → surely_before run r s ≡ false
+      by false is = is
+      by true is = (let far = (sooner_is r s is).0 in let near = (sooner_is s r sooner).0 in absurd (omega (arith, far, near)))
+
   abbrev pub ends_before : Told → Bool
   ends_before s = surely_before run s t
 

@@ -104,9 +104,17 @@ module _ (tree : Tree) (number host writer : ℕ) where
   temporary_apart (making.Pack h w) id e = elsewhere (first_byte _ _ e) refl
 
 -- where a call enters, it does so within these bounds
-abbrev EntersWithin : State → Call → Type 0
+abbrev pub EntersWithin : State → Call → Type 0
 EntersWithin old (Enter room host most) = (host < 2 ^ 32) × (old.serial < 2 ^ 32 - 1)
 EntersWithin old call = Unit {0}
+
+-- a call enters within its bounds, or changes nothing
+pub within : (old : State) (caller : ℕ) (call : Call) (reply : Reply) (new : State) → Answers old caller call reply new → EntersWithin old call ⊎ (new ≡ old)
+within old caller (Enter room h most) reply new a = elim (match_cases (draw_check old room) _ _ a) as (λ _. ((h < 2 ^ 32) × (old.serial < 2 ^ 32 - 1)) ⊎ (new ≡ old)) [
+  | inl (none, e) ↦ inl (e.host_fits, (may_enter old room none).1)
+  | inr (why, is, refused) ↦ inr refused.1
+]
+within old caller call reply new a = inl tt
 
 module _ (old : State) (tree : Tree) (told : old.store.tree ≡ Some tree) (mount_fits : old.mount < 2 ^ 32) (number host writer : ℕ) (is_item : IsItem (OpenHost host writer)) (drawn : writer ≤ last_id old) where
   abbrev Keeps : Step → Type 0
@@ -157,20 +165,12 @@ module _ (old : State) (tree : Tree) (told : old.store.tree ≡ Some tree) (moun
       installing f (inl named) = temporary_apart tree number host writer f.makes f.id named.0
       installing f (inr named) = temporary_apart tree number host writer f.makes f.id named.0
 
-  -- a call enters within its bounds, or changes nothing
-  within : (caller : ℕ) (call : Call) (reply : Reply) (new : State) → Answers old caller call reply new → EntersWithin old call ⊎ (new ≡ old)
-  within caller (Enter room h most) reply new a = elim (match_cases (draw_check old room) _ _ a) as (λ _. ((h < 2 ^ 32) × (old.serial < 2 ^ 32 - 1)) ⊎ (new ≡ old)) [
-    | inl (none, e) ↦ inl (e.host_fits, (may_enter old room none).1)
-    | inr (why, is, refused) ↦ inr refused.1
-  ]
-  within caller call reply new a = inl tt
-
   -- its tree later
   abbrev GoesAway : State → Type 0
   GoesAway new = (after : Tree) × (new.store.tree ≡ Some after) × IsAwayIn after number host writer
 
   answered : (caller : ℕ) (call : Call) (reply : Reply) (new : State) → IsAwayIn tree number host writer → Answers old caller call reply new → GoesAway new
-  answered caller call reply new a does = by (within caller call reply new does)
+  answered caller call reply new a does = by (within old caller call reply new does)
     where
       acted : (after : Tree) → ActsOn (λ step. EntersWithin old call → Keeps step) tree after → EntersWithin old call → IsAwayIn after number host writer
       acted after (inl same) w = record { room = a.room; there = ap (λ (x : Tree). slice_get x.rooms number) same ∙ a.there; none = a.none }

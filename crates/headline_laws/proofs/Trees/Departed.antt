@@ -91,15 +91,17 @@ module _ (run : Run) (times : Option (List ℕ)) (mount : Stored) (start end : S
 
   -- the line t closed it
   module _ (t : Told) (count id : ℕ) (says : Says run t (line.Closed count)) (its_id : writer_at run t ≡ Some id) where
-    abbrev its : AtLine run times mount start end fits mounted tells sound right left t id
+    abbrev pub its : AtLine run times mount start end fits mounted tells sound right left t id
     its = at_line run times mount start end fits mounted tells sound right left t id says.is_line its_id
+
+    pub gone_here : HasGone (moment_after Begins (its.p.earlier ++ its.p.mine)) its.d
+    gone_here = line_departs Begins sound_begins its.c.parts.number right.history right.calls.blocks WholeOf its.cap its.d its.kept its.file its.writer t its.p its.says its.shown its.acc count its.latest (asked_close t count says) says.says its.keeps
 
     departed : HasGone Ends its.d
     departed =
         let ends : List Event = its.p.earlier ++ its.p.mine in
         let whole : right.history ≡ ends ++ its.p.later = its.p.split ∙ sym (append_assoc its.p.earlier its.p.mine its.p.later) in
         let lawful : IsLawful Begins.state (ends ++ its.p.later) = subst (IsLawful Begins.state) whole right.leads.lawful in
-        let gone_here : HasGone (moment_after Begins ends) its.d = line_departs Begins sound_begins its.c.parts.number right.history right.calls.blocks WholeOf its.cap its.d its.kept its.file its.writer t its.p its.says its.shown its.acc count its.latest (asked_close t count says) says.says its.keeps in
         subst (λ m. HasGone m its.d) (sym (ap (moment_after Begins) whole ∙ moment-append Begins ends its.p.later)) (gone_later (moment_after Begins ends) its.p.later its.d gone_here (legal_rest Begins ends its.p.later lawful))
 
     -- whichever line tells of its opening

@@ -11,19 +11,23 @@ use Rattle.mount_sound.proofs.Facts.{mounted_sound}
 use Rattle.reader_laws.specs.Moments.{HadItem, IsSoundAt, Moment, moment_after}
 use Rattle.script_lang.specs.Ranges.{FitsScript}
 use Rattle.script_lang.specs.declared.line.Outcome.TheVariants as line
+use Rattle.script_lang.specs.declared.line.Why.TheVariants.{Busy}
 use Rattle.run_core.specs.Play.{IsPlay, IsRight}
 use Rattle.run_core.proofs.Facts.{play_right}
 use Rattle.headline.specs.Run.{Run, Says, Told}
 use Rattle.headline.specs.Trees.{Has}
 use Rattle.headline.specs.Writers.{host_of}
 use Rattle.headline.specs.Names.{Story}
+use Rattle.headline.specs.Entries.{HasEntries}
 use Rattle.headline.specs.Stories.{Fits}
 use Rattle.headline_laws.proofs.Contents.Answered.{contents}
 use Rattle.headline_laws.proofs.Contents.Stats.{stats_told}
+use Rattle.headline_laws.proofs.Reasons.Busy.{busy_holds, is_open_in}
 use Rattle.headline_laws.proofs.Reasons.Missing.{missing_told}
 use Rattle.headline_laws.proofs.Reasons.Told.{reasons_told}
 use Rattle.headline_laws.proofs.Reasons.Unready.{unready_told}
 use Rattle.headline_laws.proofs.Stamps.Marks.{truncate_stamped}
+use Rattle.headline_laws.proofs.Stamps.Topped.{stamps_out}
 use Rattle.headline_laws.proofs.Stamps.Wrote.{next_stamped}
 use Rattle.headline_laws.proofs.Statements.StillOpen.{recoveries_end}
 use Rattle.headline_laws.proofs.Story.Entered.{entered_once}
@@ -37,6 +41,7 @@ use Rattle.headline_laws.proofs.Trees.Flattened.{flattened_stands}
 use Rattle.headline_laws.proofs.Trees.Fresh.{number_new}
 use Rattle.headline_laws.proofs.Trees.Kept.{writers_kept}
 use Rattle.headline_laws.proofs.Makers.Known.{truncs_known}
+use Rattle.headline_laws.proofs.Makers.KnownEntries.{entries_known}
 use Rattle.headline_laws.proofs.Makers.KnownIndices.{indices_known}
 use Rattle.headline_laws.proofs.Trees.Left.{writers_left}
 use Rattle.headline_laws.proofs.Trees.Listed.{names_are_listed}
@@ -68,8 +73,14 @@ module _ (run : Run) (opened : Stored) (start end : State) (fits : FitsScript ru
       let there : (item : Item) → HadItem (moment_after Begin right.history) s.dropping.room item → Has run.after (homes.of t) item = λ item had. subst (λ k. Has run.after k item) room (last_item run Begin end fits sound_begin right left s.dropping.room item had) in
       (there (Index (host_of (slice_get run.script.actors t.actor)) id) s.index, there (Log (host_of (slice_get run.script.actors t.actor)) id) s.log)
 
+  entries_told : run.in_order ≡ false → HasEntries run homes
+  entries_told free = record {
+    known = entries_known run run.times opened start end fits mounted told sound right left;
+    busy = λ t host id says. (let may = (reasons_told run Begin end fits sound_begin right).kinds t (Busy host id) says in (busy_holds t.statement host id may, is_open_in run run.times opened start end fits mounted told sound right left free t host id says may));
+  }
+
   pub has_story : run.in_order ≡ false → (story : Story) × Fits run story
-  has_story free = (homes, record { names = names_told run Begin end fits sound_begin right left; opened = record { index = λ t id says. (both_here t id says).0; log = λ t id says. (both_here t id says).1; new = number_new run run.times opened start end fits mounted told sound right; alone = λ s t id. opened_by_one run run.times opened start end fits mounted told sound right left id s t }; readers = readers_told run Begin end fits sound_begin right left free; old = old_seen run run.times opened start end fits mounted told sound right; contents = contents run run.times opened start end fits mounted told sound right left free; stats = stats_told run run.times opened start end fits mounted told sound right left free; stamped = record { wrote = next_stamped run opened start end fits mounted told sound right left; truncated = truncate_stamped run opened start end fits mounted told sound right left }; truncated = truncates_told run run.times opened start end fits mounted told sound right left free; truncs = truncs_known run run.times opened start end fits mounted told sound right left free; indices = indices_known run run.times opened start end fits mounted told sound right left; flattened = flattened_stands run run.times opened start end fits mounted told sound right left; listed = names_are_listed run run.times opened start end fits mounted told sound right left free; refusals = refusals_told run Begin end fits sound_begin right; recovered = recoveries_told run run.times opened start end fits mounted told sound right left free; ended = recoveries_end run run.times opened start end fits mounted told sound right left free homes (recoveries_told run run.times opened start end fits mounted told sound right left free); reasons = reasons_told run Begin end fits sound_begin right; missing = missing_told run run.times opened start end fits mounted told sound right left free; unready = unready_told run run.times opened start end fits mounted told sound right left; left = writers_left run run.times opened start end fits mounted told sound right left; closed = writers_departed run run.times opened start end fits mounted told sound right left; kept = writers_kept run run.times opened start end fits mounted told sound right left; losses = told_survives run run.times opened start end fits mounted told sound right left })
+  has_story free = (homes, record { names = names_told run Begin end fits sound_begin right left; opened = record { index = λ t id says. (both_here t id says).0; log = λ t id says. (both_here t id says).1; new = number_new run run.times opened start end fits mounted told sound right; alone = λ s t id. opened_by_one run run.times opened start end fits mounted told sound right left id s t }; readers = readers_told run Begin end fits sound_begin right left free; old = old_seen run run.times opened start end fits mounted told sound right; contents = contents run run.times opened start end fits mounted told sound right left free; stats = stats_told run run.times opened start end fits mounted told sound right left free; stamped = record { wrote = next_stamped run opened start end fits mounted told sound right left; truncated = truncate_stamped run opened start end fits mounted told sound right left }; truncated = truncates_told run run.times opened start end fits mounted told sound right left free; truncs = truncs_known run run.times opened start end fits mounted told sound right left free; indices = indices_known run run.times opened start end fits mounted told sound right left; flattened = flattened_stands run run.times opened start end fits mounted told sound right left; listed = names_are_listed run run.times opened start end fits mounted told sound right left free; refusals = refusals_told run Begin end fits sound_begin right; recovered = recoveries_told run run.times opened start end fits mounted told sound right left free; ended = recoveries_end run run.times opened start end fits mounted told sound right left free homes (recoveries_told run run.times opened start end fits mounted told sound right left free); entries = entries_told free; reasons = reasons_told run Begin end fits sound_begin right; missing = missing_told run run.times opened start end fits mounted told sound right left free; unready = unready_told run run.times opened start end fits mounted told sound right left; spent = stamps_out run opened start end fits mounted told sound right left; left = writers_left run run.times opened start end fits mounted told sound right left; closed = writers_departed run run.times opened start end fits mounted told sound right left; kept = writers_kept run run.times opened start end fits mounted told sound right left; losses = told_survives run run.times opened start end fits mounted told sound right left })
 
 pub play_has_story : (run : Run) (opened : Stored) (start end : State) → FitsScript run.script → IsMounted 0 run.times opened start → opened.tree ≡ Some run.before → IsSoundTree run.before → IsPlay run.script start run.lines end → end.store.tree ≡ Some run.after
     → run.in_order ≡ false → (story : Story) × Fits run story

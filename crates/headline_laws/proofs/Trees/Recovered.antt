@@ -74,6 +74,7 @@ use Rattle.headline_laws.proofs.Makers.Holding.{answered_call}
 use Rattle.headline_laws.proofs.Statements.Did.{IsOfKindOr}
 use Rattle.headline_laws.proofs.Statements.Does.{Ended, did, was_gone}
 use Rattle.headline_laws.proofs.Story.Lines.{AnyLine, line_here, room_of}
+use Rattle.headline_laws.proofs.Story.Ordered.{not_behind}
 use Rattle.headline_laws.proofs.Trees.Away.{IsAway, away_later}
 use Rattle.headline_laws.proofs.Trees.Kept.{writers_kept}
 use Rattle.headline_laws.proofs.Trees.Old.{begins_with}
@@ -82,7 +83,7 @@ use Rattle.headline_laws.proofs.Trees.Reading.{fronts, last_tree}
 use Rattle.headline_laws.proofs.Trees.Still.{file_of, none_or}
 use Rattle.headline_laws.proofs.Trees.TakenHost.{one_host}
 use Rattle.headline_laws.proofs.Trees.WriterStands.{line_stands}
-use Rattle.headline_laws.proofs.Contents.OpenUntil.{StandsOpen, drawn_later, drawn_rises, stands_open}
+use Rattle.headline_laws.proofs.Contents.OpenUntil.{StandsBehind, StandsOpen, drawn_later, drawn_rises, stands_behind, stands_open}
 use Rattle.headline_laws.proofs.Statements.LivingLines.{GoesOn}
 
 -- ---- who is told, by rising number
@@ -296,14 +297,14 @@ module _ (run : Run) (times : Option (List ℕ)) (mount : Stored) (start end : S
   had_last n item is_item has = record { is_item = is_item; bytes = has.0; there = ap (λ o. file_told o n (path_of item)) last_is ∙ sym (file_of run.after n item) ∙ has.1 }
 
   -- where it is away, it isn't there
-  away_not : (m : Moment) (d : Dropping) → IsAway m d → HadItem m d.room (OpenHost d.host d.writer) → ⊥
+  pub away_not : (m : Moment) (d : Dropping) → IsAway m d → HadItem m d.room (OpenHost d.host d.writer) → ⊥
   away_not m d a had =
       let none : file_told m.state.store.tree d.room (open_path d.host d.writer) ≡ None = ap (λ o. file_told o d.room (open_path d.host d.writer)) a.told ∙ ap (λ r. file_in_room r (open_path d.host d.writer)) a.away.there ∙ a.away.none in
       let clash : None ≡ Some had.bytes = sym none ∙ had.there in
       absurd (cc)
 
   -- and stays so
-  away_rises : (x xs y ys : List Event) → right.history ≡ x ++ xs → right.history ≡ y ++ ys → length x ≤ length y → (d : Dropping) → IsNamed d → IsAway (moment_after Begins x) d → IsAway (moment_after Begins y) d
+  pub away_rises : (x xs y ys : List Event) → right.history ≡ x ++ xs → right.history ≡ y ++ ys → length x ≤ length y → (d : Dropping) → IsNamed d → IsAway (moment_after Begins x) d → IsAway (moment_after Begins y) d
   away_rises x xs y ys is also le d named a =
       let gap = fronts x xs y ys (sym is ∙ also) le in
       let split : right.history ≡ x ++ (gap.0 ++ ys) = also ∙ ap (λ z. z ++ ys) gap.1 ∙ append_assoc x gap.0 ys in
@@ -648,8 +649,15 @@ module _ (run : Run) (times : Option (List ℕ)) (mount : Stored) (start end : S
     abbrev Open_by : ℕ → Type 0
     Open_by id = StandsOpen run times mount start end fits mounted tells sound right left t id
 
+    abbrev Behind_by : ℕ → Type 0
+    Behind_by id = StandsBehind run times mount start end fits mounted tells sound right left t id
+
     open_by : run.in_order ≡ false → (o : Told) (id : ℕ) → Says run o (line.Opened id) → surely_before run o t ≡ true → HomeOf o ≡ HomeOf t → IsStillOpen run t o → Open_by id
-    open_by free o id opens sooner home still = stands_open run times mount start end fits mounted tells sound right left free t o id says.is_line goes_here opens home sooner still
+    open_by free o id opens sooner home still = stands_open run times mount start end fits mounted tells sound right left free t o id says.is_line goes_here (opens_none id) opens home (not_behind run free t o t sooner) still sooner
+
+    -- the same of a line that began by its end
+    behind_by : run.in_order ≡ false → (o : Told) (id : ℕ) → Says run o (line.Opened id) → surely_before run t o ≡ false → HomeOf o ≡ HomeOf t → IsStillOpen run t o → Behind_by id
+    behind_by free o id opens early home still = stands_behind run times mount start end fits mounted tells sound right left free t o id says.is_line goes_here (opens_none id) opens home early still
 
     -- it was listed
     still_named : (id : ℕ) → Open_by id → Among id alive
@@ -670,11 +678,20 @@ module _ (run : Run) (times : Option (List ℕ)) (mount : Stored) (start end : S
             absurd (none_so so.reader so.writing so.its_line x nobody so.host id (drawn x) so.till so.more so.is (omega (arith, far, short)) so.entry)
 
     -- and wasn't taken out
-    never_taken : (b : WriterCount) → Among b out → Open_by b.writer → ⊥
+    never_taken : (b : WriterCount) → Among b out → Behind_by b.writer → ⊥
     never_taken b at so = by (lists_so so.reader so.writing so.its_line)
       where
         by : (x : Listing so.reader so.writing so.its_line) × TellsSo so.reader so.writing so.its_line x out alive hold → ⊥
-        by (x, inl (none, v)) = gone_all so.reader so.writing so.its_line x v b (is_buried so.reader so.writing so.its_line x v b at) so.host so.till so.more so.is so.behind so.entry
+        by (x, inl (none, v)) = gone_all so.reader so.writing so.its_line x v b (is_buried so.reader so.writing so.its_line x v b at) so.stands.host so.stands.till so.stands.more so.stands.is so.stands.behind so.stands.entry
+        by (x, inr (nobody, none, no_one)) = subst (Among b) none at
+
+    -- none of them has an entry at any moment behind the line
+    pub taken_gone : (r : Option Told) (w : Writing) (l : AnyLine run Begins end fits sound_begins right r w t) (b : WriterCount) → Among b out → (host : ℕ) (z zs : List Event) → right.history ≡ z ++ zs → length l.line.part.earlier + length l.line.part.mine ≤ length z
+        → HadItem (moment_after Begins z) (HomeOf t) (OpenHost host b.writer) → ⊥
+    taken_gone r w l b at host z zs is far had = by (lists_so r w l)
+      where
+        by : (x : Listing r w l) × TellsSo r w l x out alive hold → ⊥
+        by (x, inl (none, v)) = gone_all r w l x v b (is_buried r w l x v b at) host z zs is far had
         by (x, inr (nobody, none, no_one)) = subst (Among b) none at
 
     record RecoveryTells : Type 0 where
@@ -705,7 +722,7 @@ module _ (run : Run) (times : Option (List ℕ)) (mount : Stored) (start end : S
                   host = i.burial.host;
                   gone = λ open_by is_item still. gone_all (reader_at run t) (writing_at run t) here x v b i open_by right.history [] (sym (append-nil right.history)) (line_long (reader_at run t) (writing_at run t) here x) (had_last (HomeOf t) (OpenHost open_by b.writer) is_item still);
                   spared = λ o is_line home stays. (let e = its_entry o b.writer is_line home stays in gone_all (reader_at run t) (writing_at run t) here x v b i e.0 right.history [] (sym (append-nil right.history)) (line_long (reader_at run t) (writing_at run t) here x) (had_last (HomeOf t) (OpenHost e.0 b.writer) e.1 e.2));
-                  dead = λ o is_line opens home sooner still. never_taken b at (open_by free o b.writer (record { is_line = is_line; says = opens }) sooner home still);
+                  dead = λ o is_line opens home early still. never_taken b at (behind_by free o b.writer (record { is_line = is_line; says = opens }) early home still);
                   counted = counted_so free b at;
                   landed = k.count_is ∙ many_told Ends run.after d last_is;
                   its_host = one_host run times mount start end fits mounted tells sound right left (HomeOf t) i.burial.host b.writer (till (reader_at run t) (writing_at run t) here x) (x.listing ∷ (x.later ++ behind (reader_at run t) (writing_at run t) here)) (till_split (reader_at run t) (writing_at run t) here x) (stood_then (reader_at run t) (writing_at run t) here x v b i) (before run t) (so_far run t);

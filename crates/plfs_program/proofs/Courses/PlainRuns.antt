@@ -16,10 +16,11 @@ use Rattle.script_lang.specs.declared.line.Line.{Line}
 use Rattle.script_lang.specs.declared.line.Outcome.{Outcome}
 use Rattle.script_lang.specs.declared.line.Outcome.TheVariants.{Fault}
 use Rattle.script_lang.specs.declared.script.Script.{Script}
-use Rattle.plain_plays.specs.OverStores.{TellsPlainly}
+use Rattle.plain_machine.specs.Machine.{Plain}
+use Rattle.plain_plays.specs.OverStores.{BeginsOver, TellsPlainly}
 use Rattle.plain_plays.proofs.Facts.{IsBroken, bare_or_mounts}
 use Rattle.program_ends.specs.Ends.{Ends}
-use Rattle.program_ends.specs.Mounting.{AreWhy, unmounted_of}
+use Rattle.program_ends.specs.Mounting.{AreWhy, IsUnmounted, unmounted_of}
 use Rattle.program_ends.specs.Outcomes.{has_line, is_fault}
 use Rattle.program_ends.specs.Reported.{line_zero}
 use Rattle.program_ends.proofs.Facts.{why_fails}
@@ -63,15 +64,20 @@ tells_fault why outcome (inr wants) told = let none : None ≡ Some outcome = sy
 
 -- ---- the lines
 
-lines_plain : (script : Script) (times : Option (List ℕ)) (before after : Stored) (lines : List Line) → AreLinesOf by_turns times before after script lines → (has_line is_fault lines ≡ true → HasRisen before.faults after.faults)
+-- no mounting broke off where a machine begins over the store
+pub never_unmounted : (script : Script) (times : Option (List ℕ)) (before after : Stored) (lines : List Line) (why : MountTrouble) (p : Plain) → BeginsOver script times before p → FailsToMount before why after → IsUnmounted why lines
+    → (has_line is_fault lines ≡ true → HasRisen before.faults after.faults) → (HasRisen before.faults after.faults → ⊥) → ⊥
+never_unmounted script times before after lines why p begins failed (outcome, told, only) cause none =
+    none (cause (ap (λ ls. has_line is_fault ls) only ∙ tells_fault why outcome (breaks_off before after why failed (bare_or_mounts script times before p begins)) told))
+
+pub lines_plain : (script : Script) (times : Option (List ℕ)) (before after : Stored) (lines : List Line) → AreLinesOf by_turns times before after script lines → (has_line is_fault lines ≡ true → HasRisen before.faults after.faults)
     → (HasRisen before.faults after.faults → ⊥) → TellsPlainly script times before lines after
 lines_plain script times before after lines (mounted on) cause none = on.machine refl none
-lines_plain script times before after lines (unmounted why failed (outcome, told, only)) cause none = λ plain p begins.
-    absurd (none (cause (ap (λ ls. has_line is_fault ls) only ∙ tells_fault why outcome (breaks_off before after why failed (bare_or_mounts script times before p begins)) told)))
+lines_plain script times before after lines (unmounted why failed says) cause none = λ plain p begins. absurd (never_unmounted script times before after lines why p begins failed says cause none)
 
 -- ---- what the words ask for
 
-none_some : (plan : Plan) → None ≡ Some plan → ⊥
+pub none_some : (plan : Plan) → None ≡ Some plan → ⊥
 none_some plan e = cc
 
 -- a command that has a plan needs no threads

@@ -156,7 +156,7 @@ module _ (name : List ℕ) (e f : Ends) (alike : BeginAlike e f) (quiet : Quiet 
 -- ---- what becomes of both
 
 -- what a run told that had its way
-data Told (name : List ℕ) (e : Ends) (status : ℕ) : Type 0 where
+pub data Told (name : List ℕ) (e : Ends) (status : ℕ) : Type 0 where
   unopened : (line : Line) → IsReadOut name 0 (line ∷ []) e → reader_size line.outcome ≡ None → IsPrinted (text_of (line ∷ [])) e.taking e.taking_after → status ≡ status_of (line ∷ []) → Told name e status
   whole : (opened : Line) (reads : List Line) (size : ℕ) → reader_size opened.outcome ≡ Some size → IsReadOut name (pieces_of size) (opened ∷ reads) e → All IsRead reads → IsPrinted (contents reads) e.taking e.taking_after → status ≡ 0 → Told name e status
   stuck : (opened : Line) (reads : List Line) (last : Line) (size : ℕ) → reader_size opened.outcome ≡ Some size → length reads + 1 ≤ pieces_of size → IsReadOut name (length reads + 1) (opened ∷ (reads ++ last ∷ [])) e → All IsRead reads
@@ -169,7 +169,7 @@ cut_later given after e mid text more quiet printed part = elim part.cause as (�
   | inr stalled ↦ quiet.stalls (subst (λ n. HasRisen n e.taking_after.stalls) printed.stalls stalled)
 ]
 
-told_so : (given after : Given) (name : List ℕ) (e : Ends) (status : ℕ) → HadNoTrouble given after e → status ≢ 3 → CatCourse name e status → Told name e status
+pub told_so : (given after : Given) (name : List ℕ) (e : Ends) (status : ℕ) → HadNoTrouble given after e → status ≢ 3 → CatCourse name e status → Told name e status
 told_so given after name e status quiet fed (cat.unopened line played none text is) = unopened line played none text is
 told_so given after name e status quiet fed (cat.unsaid line played none part is) = absurd (not_cut given after e (text_of (line ∷ [])) quiet part)
 told_so given after name e status quiet fed (cat.whole opened reads size has played all text is) = whole opened reads size has played all text is

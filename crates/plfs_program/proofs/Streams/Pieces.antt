@@ -1,9 +1,7 @@
 -- The pieces that a reader of one file was told.
-use Rattle.std.proofs.Common.{ℕ, zero, suc, ◌≡◌, ◌+◌, ◌*◌, ◌≤◌, true, if◌then◌else◌, List, [], ◌∷◌, ◌++◌, length, map, take, drop, Option, Some, None, refl, sym, ap, ◌∙◌, subst, append-nil, take-add, arith}
+use Rattle.std.proofs.Common.{ℕ, zero, suc, ◌≡◌, ◌+◌, ◌*◌, true, if◌then◌else◌, List, [], ◌∷◌, ◌++◌, length, map, take, Option, Some, None, refl, sym, ap, ◌∙◌, subst, append-nil, arith}
 use Rattle.std.specs.List.{range_with_len}
 use Rattle.std.specs.Prelude.{◌==◌, All}
-use Rattle.std.proofs.lemmas.Grind.{common_steps, div_ceil_times}
-use Rattle.std.proofs.lemmas.List.{take_all}
 use Rattle.std.proofs.lemmas.List.Elements.{All-head, All-tail}
 use Rattle.plfs_types.specs.declared.entries.Trunc.{Trunc}
 use Rattle.plfs_types.specs.declared.entries.WriterCount.{WriterCount}
@@ -30,6 +28,7 @@ use Rattle.plfs_program.specs.Cat.{IsRead, is_read, content_of, contents, cat_sc
 use Rattle.plfs_program.specs.Commands.{actor}
 use Rattle.plfs_program.specs.ReadOut.{ShowOneFile}
 use Rattle.plfs_program.proofs.Streams.CatLemmas.{IsFirst, all_first}
+use Rattle.plfs_program.proofs.Streams.Slices.{AreSlices, slices_front, slices_whole}
 
 -- ---- what lines tell
 
@@ -94,9 +93,6 @@ was_read (of.Damaged folder file place) is = cc
 
 -- ---- pieces
 
-dropped : (m n : ℕ) (xs : List ℕ) → drop (m + n) xs ≡ drop n (drop m xs)
-dropped m n xs = grind (arith, common_steps)
-
 module _ (start : Moment) (caller : ℕ) (file : OneFile) where
   piece : (stretch : Stretch) (at len : ℕ) (outcome : Outcome) → is_read outcome ≡ true → ShowsRead start stretch file at len outcome → content_of outcome ≡ slice (seen_bytes file) at len
   piece stretch at len outcome is shows =
@@ -104,32 +100,27 @@ module _ (start : Moment) (caller : ℕ) (file : OneFile) where
       let S : Outcome → Type 0 = λ o. ShowsRead start stretch file at len o in
       ap content_of told.2 ∙ (subst S told.2 shows).1
 
-  -- pieces from this one on are the bytes of the file from its place on
-  pieces_front : (k count : ℕ) (stretch : Stretch) (writer : Option OneWriter) (reads more : List Line) → All IsRead reads → ShowsEach start caller stretch (Some file) writer (map reading (range_with_len k count)) (reads ++ more)
-      → contents reads ≡ take (length reads * piece_length) (drop (k * piece_length) (seen_bytes file))
-  pieces_front k count stretch writer [] more all shows = refl
-  pieces_front k zero stretch writer (line ∷ reads) more all shows = cc
-  pieces_front k (suc count) stretch writer (line ∷ reads) more all (mine, rest, new, new_writer, split, number, (same, shown), writes, later) =
-      let first : content_of line.outcome ≡ slice (seen_bytes file) (k * piece_length) piece_length = piece (record { before = stretch.before; events = mine }) (k * piece_length) piece_length line.outcome (All-head IsRead line reads all) shown in
-      let P : Option OneFile → Type 0 = λ o. ShowsEach start caller (record { before = stretch.before ++ mine; events = rest }) o new_writer (map reading (range_with_len (k + 1) count)) (reads ++ more) in
-      let others = pieces_front (k + 1) count (record { before = stretch.before ++ mine; events = rest }) new_writer reads more (All-tail IsRead line reads all) (subst P same later) in
-      let place : (k + 1) * piece_length ≡ k * piece_length + piece_length = omega arith in
-      let behind : drop ((k + 1) * piece_length) (seen_bytes file) ≡ drop piece_length (drop (k * piece_length) (seen_bytes file)) = ap (λ n. drop n (seen_bytes file)) place ∙ dropped (k * piece_length) piece_length (seen_bytes file) in
-      let long : piece_length + length reads * piece_length ≡ length (line ∷ reads) * piece_length = omega arith in
-      ap (λ z. z ++ contents reads) first
-      ∙ ap (λ z. take piece_length (drop (k * piece_length) (seen_bytes file)) ++ z) (others ∙ ap (λ z. take (length reads * piece_length) z) behind)
-      ∙ sym (take-add piece_length (length reads * piece_length) (drop (k * piece_length) (seen_bytes file)))
-      ∙ ap (λ n. take n (drop (k * piece_length) (seen_bytes file))) long
+  -- pieces from this one on are those of the file
+  pieces_are : (k count : ℕ) (stretch : Stretch) (writer : Option OneWriter) (reads more : List Line) → All IsRead reads → ShowsEach start caller stretch (Some file) writer (map reading (range_with_len k count)) (reads ++ more)
+      → AreSlices (seen_bytes file) k reads
+  pieces_are k count stretch writer [] more all shows = tt
+  pieces_are k zero stretch writer (line ∷ reads) more all shows = cc
+  pieces_are k (suc count) stretch writer (line ∷ reads) more all (mine, rest, new, new_writer, split, number, (same, shown), writes, later) =
+      let P : Option OneFile → Type 0 = λ o. ShowsEach start caller (record { before = stretch.before ++ mine; events = rest }) o new_writer (map reading (range_with_len (k + 1) count)) (reads ++ more) in (
+        piece (record { before = stretch.before; events = mine }) (k * piece_length) piece_length line.outcome (All-head IsRead line reads all) shown,
+        pieces_are (k + 1) count (record { before = stretch.before ++ mine; events = rest }) new_writer reads more (All-tail IsRead line reads all) (subst P same later),
+      )
+
+  pieces_front : (count : ℕ) (stretch : Stretch) (writer : Option OneWriter) (reads more : List Line) → All IsRead reads → ShowsEach start caller stretch (Some file) writer (map reading (range_with_len 0 count)) (reads ++ more)
+      → contents reads ≡ take (length reads * piece_length) (seen_bytes file)
+  pieces_front count stretch writer reads more all shows = slices_front (seen_bytes file) 0 reads (pieces_are 0 count stretch writer reads more all shows)
 
   -- all of them are all of its bytes
   pieces_whole : (size : ℕ) (stretch : Stretch) (writer : Option OneWriter) (count : ℕ) (lines : List Line) → size ≡ length (seen_bytes file) → All IsRead lines → length lines ≡ pieces_of size → ShowsEach start caller stretch (Some file) writer (map reading (range_with_len 0 count)) lines
       → contents lines ≡ seen_bytes file
   pieces_whole size stretch writer count lines is all long shows =
       let S : List Line → Type 0 = λ ls. ShowsEach start caller stretch (Some file) writer (map reading (range_with_len 0 count)) ls in
-      let front = pieces_front 0 count stretch writer lines [] all (subst S (sym (append-nil lines)) shows) in
-      let bound = (div_ceil_times size piece_length (omega arith)).0 in
-      let enough : length (seen_bytes file) ≤ length lines * piece_length = subst (λ n. length (seen_bytes file) ≤ n * piece_length) (sym long) (subst (λ n. n ≤ pieces_of size * piece_length) is bound) in
-      front ∙ take_all (length lines * piece_length) (seen_bytes file) enough
+      slices_whole (seen_bytes file) size lines is long (pieces_are 0 count stretch writer lines [] all (subst S (sym (append-nil lines)) shows))
 
 -- ---- the lines of the one actor
 
@@ -165,7 +156,7 @@ module _ (name : List ℕ) (count : ℕ) (start : State) (end : State) where
         file = o.0;
         opened = record { issued = m.issued; sound = sound; caller = caller; first = mine; later = rest; all = split; opens = subst (λ st. OpensOneFile (record { state = st; issued = m.issued }) caller (record { before = []; events = mine }) name o.0) at o.2 };
         long = long;
-        front = λ done more is all. (let S : List Line → Type 0 = λ ls. ShowsEach m caller (record { before = mine; events = rest }) (Some o.0) new_writer (map reading (range_with_len 0 count)) ls in pieces_front m caller o.0 0 count (record { before = mine; events = rest }) new_writer done more all (subst S is reads));
+        front = λ done more is all. (let S : List Line → Type 0 = λ ls. ShowsEach m caller (record { before = mine; events = rest }) (Some o.0) new_writer (map reading (range_with_len 0 count)) ls in pieces_front m caller o.0 count (record { before = mine; events = rest }) new_writer done more all (subst S is reads));
         whole = λ all pieces. pieces_whole m caller o.0 size (record { before = mine; events = rest }) new_writer count lines long all pieces reads;
       }
 

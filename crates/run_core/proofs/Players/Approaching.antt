@@ -19,7 +19,7 @@ use Rattle.run_core.specs.declared.player.Player.{Player}
 use Rattle.run_core.specs.Course.{Course}
 use Rattle.run_core.specs.Leading.{MadeCall}
 use Rattle.mount_model.specs.History.{AreBy}
-use Rattle.run_core.specs.Players.{course_at, course_left, IsSafeProgress, IsMade, IsFit, in_progress, lines_left}
+use Rattle.run_core.specs.Players.{course_at, course_left, IsSafeProgress, IsMade, IsFit, in_progress, lines_left, waiting_in}
 use Rattle.run_core.specs.Moving.{Approaches, Passes, Begins, IsDone}
 use Rattle.run_core.proofs.Players.Leading.{leads_none, leads_both, by_both}
 use Rattle.share_workers.proofs.Facts.{memory_both}
@@ -54,9 +54,9 @@ nearer old now new start mid end question reply so_far a made memory is same =
       by_it = by_both old.number so_far.events (e ∷ []) so_far.by_it (so_far.number, tt);
       nears = λ later more line left t.
           let next : Kept → Course = λ kept. pauses (later kept) in
-          let there : Course = course_at (going a.number (a.next reply)) now.queue.items next in
+          let there : Course = course_at (going a.number (a.next reply)) (waiting_in now) next in
           let goes : Finishes old.number there more line left = subst (λ (z : Course). Finishes old.number z more line left) (course_same now new (going a.number (a.next reply)) later same reached) t in
-          let before : Finishes old.number (course_left now later) (e ∷ more) line left = a.finishes old.number now.queue.items next e more line left so_far.number refl goes in
+          let before : Finishes old.number (course_left now later) (e ∷ more) line left = a.finishes old.number (waiting_in now) next e more line left so_far.number refl goes in
           subst (λ (z : List Event). Finishes old.number (course_left old later) z line left) (sym (append_assoc so_far.events (e ∷ []) more)) (so_far.nears later (e ∷ more) line left before);
       ahead = same.ahead ∙ so_far.ahead;
       number = same.number ∙ so_far.number;
@@ -75,7 +75,7 @@ passes old now new start end line so_far t none is same =
     let was : in_progress (progress_of now.actor) ≡ 1 = t.busy in
     let rests : in_progress (progress_of new.actor) ≡ 0 = ap in_progress is in
     let same_ahead : length new.ahead.items ≡ length now.ahead.items = ap length same.ahead in
-    let same_queue : length new.queue.items ≡ length now.queue.items = ap length same.queue in
+    let same_queue : length (waiting_in new) ≡ length (waiting_in now) = ap length same.queue in
     record {
       events = so_far.events;
       leads = so_far.leads;
@@ -85,7 +85,7 @@ passes old now new start end line so_far t none is same =
           let next : Kept → Course = λ kept. pauses (later kept) in
           let none_yet : List Event = [] in
           let to_line : Finishes old.number (course_left now later) none_yet line (course_left new later) =
-          subst (λ (z : Course). Finishes old.number (course_left now later) none_yet line z) (sym (course_same now new (idle t.kept) later same is)) (t.finishes old.number now.queue.items next) in
+          subst (λ (z : Course). Finishes old.number (course_left now later) none_yet line z) (sym (course_same now new (idle t.kept) later same is)) (t.finishes old.number (waiting_in now) next) in
           let whole : Finishes old.number (course_left old later) so_far.events line (course_left new later) =
           subst (λ (z : List Event). Finishes old.number (course_left old later) z line (course_left new later)) (append-nil so_far.events) (so_far.nears later [] line (course_left new later) to_line) in
           to_end old.number new.number old.ahead.items new.ahead.items (course_left old later) (course_left new later) so_far.events line none (same.ahead ∙ (so_far.ahead ∙ none)) (same.number ∙ so_far.number) whole;
@@ -110,10 +110,10 @@ begins_passes old now new start end line b p = record {
 }
 
 -- the line was ahead
-pub was_ahead : (old new : Player) (now : State) (line : Line) → IsFit old now → old.ahead.items ≡ line ∷ new.ahead.items → new.number ≡ old.number → new.queue.items ≡ old.queue.items → progress_of new.actor ≡ progress_of old.actor → Passes line old now new now
+pub was_ahead : (old new : Player) (now : State) (line : Line) → IsFit old now → old.ahead.items ≡ line ∷ new.ahead.items → new.number ≡ old.number → waiting_in new ≡ waiting_in old → progress_of new.actor ≡ progress_of old.actor → Passes line old now new now
 was_ahead old new now line fit ahead number queue progress =
     let lines : length old.ahead.items ≡ suc (length new.ahead.items) = ap length ahead in
-    let others : length new.queue.items ≡ length old.queue.items = ap length queue in
+    let others : length (waiting_in new) ≡ length (waiting_in old) = ap length queue in
     let busy : in_progress (progress_of new.actor) ≡ in_progress (progress_of old.actor) = ap in_progress progress in
     record {
       events = [];
@@ -145,7 +145,7 @@ is_none (told line kept) rests = absurd rests
 pub not_done : (old new : Player) → Begins old new → 1 ≤ lines_left old → old.ahead.items ≡ [] → IsDone new → ⊥
 not_done old new b some none done =
     let ahead : length new.ahead.items ≡ 0 = ap length (b.ahead ∙ none) in
-    let queue : length new.queue.items ≡ 0 = ap length done.none in
+    let queue : length (waiting_in new) ≡ 0 = ap length done.none in
     let busy : in_progress (progress_of new.actor) ≡ 0 = is_none (progress_of new.actor) done.idle in
     let left : lines_left new ≡ lines_left old = b.left in
     omega (arith, ahead, queue, busy, left, some)
@@ -159,7 +159,7 @@ line_passes old now new mid start end line so_far busy none is waits taken empty
     subst (λ (z : Line). Passes z old start new end) (sym line_is) (passes old now new start end h.line so_far h.next empty (taken ∙ h.leaves) same)
 
 -- an empty list was asked for a line
-pub same_begins : (old new : Player) → new.number ≡ old.number → new.queue.items ≡ old.queue.items → new.ahead.items ≡ old.ahead.items → progress_of new.actor ≡ progress_of old.actor → Begins old new
+pub same_begins : (old new : Player) → new.number ≡ old.number → waiting_in new ≡ waiting_in old → new.ahead.items ≡ old.ahead.items → progress_of new.actor ≡ progress_of old.actor → Begins old new
 same_begins old new number queue ahead progress =
     let same : Same old new = record { number = number; queue = queue; ahead = ahead } in
     record {

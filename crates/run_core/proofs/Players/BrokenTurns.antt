@@ -21,7 +21,7 @@ use Rattle.run_core.specs.declared.player.Player.{Player}
 use Rattle.run_core.specs.Course.{Course, one_by_one, then_line}
 use Rattle.run_core.specs.Written.{is_greeting}
 use Rattle.run_core.specs.Leading.{MadeCall}
-use Rattle.run_core.specs.Players.{course_at, course_left, IsSafeProgress}
+use Rattle.run_core.specs.Players.{course_at, course_left, IsSafeProgress, waiting_in}
 use Rattle.run_core.specs.Moving.{Advances, Approaches, Begins, Comes, Passes}
 use Rattle.run_core.specs.Breaking.{BeginsTo, One, PassesNext}
 use Rattle.run_core.specs.Broken.{PassBreaks, TurnBreaks, acting}
@@ -82,9 +82,9 @@ turn_stops_at old now start mid end question reply so_far a made =
       had_memory = before_last so_far.events e so_far.had_memory;
       are = λ later.
           let next : Kept → Course = λ kept. pauses (later kept) in
-          let there : Course = course_at (going a.number (a.next reply)) now.queue.items next in
+          let there : Course = course_at (going a.number (a.next reply)) (waiting_in now) next in
           let t = goes_on_so (is_greeting question) old.number there (can_turn old.number there end) in
-          let here : TakesTurn is_greeting old.number (course_left now later) (e ∷ t.calls) t.lines t.left = a.turn old.number now.queue.items next e t.calls t.lines t.left so_far.number refl t.goes in
+          let here : TakesTurn is_greeting old.number (course_left now later) (e ∷ t.calls) t.lines t.left = a.turn old.number (waiting_in now) next e t.calls t.lines t.left so_far.number refl t.goes in
           let whole = so_far.changes later (e ∷ t.calls) t.lines t.left here in
           let T : List Event → Type 0 = λ z. TakesTurn is_greeting old.number (course_left old later) z (so_far.told ++ t.lines) t.left in
           (t.calls, performer old.number t.left (old.ahead.items ++ (so_far.told ++ t.lines)), (so_far.told ++ t.lines, t.left, subst T (sym (append_assoc so_far.events (e ∷ []) t.calls)) whole, refl));
@@ -150,7 +150,7 @@ pass_stops old now start mid a busy none = record {
   leads = a.leads;
   had_memory = none_refused a.events a.had_memory;
   are = λ later.
-      let f = can_finish now.number old.number (progress_of now.actor) now.queue.items (λ kept. pauses (later kept)) mid a.fit.safe busy in
+      let f = can_finish now.number old.number (progress_of now.actor) (waiting_in now) (λ kept. pauses (later kept)) mid a.fit.safe busy in
       front_passes old later a.events f.calls f.line f.left none (a.nears later f.calls f.line f.left f.finishes);
 }
 
@@ -165,8 +165,8 @@ pass_stops_at old now start mid end question reply so_far a made none =
       are = λ later.
           let next : Kept → Course = λ kept. pauses (later kept) in
           let safe = a.safe reply end made.lawful.1 in
-          let f = can_finish_work old.number a.number (λ kept. one_by_one now.queue.items next kept) (a.next reply) end safe.0 in
-          let here : Finishes old.number (course_left now later) (e ∷ f.calls) f.line f.left = a.finishes old.number now.queue.items next e f.calls f.line f.left so_far.number refl f.finishes in
+          let f = can_finish_work old.number a.number (λ kept. one_by_one (waiting_in now) next kept) (a.next reply) end safe.0 in
+          let here : Finishes old.number (course_left now later) (e ∷ f.calls) f.line f.left = a.finishes old.number (waiting_in now) next e f.calls f.line f.left so_far.number refl f.finishes in
           let F : List Event → Type 0 = λ z. Finishes old.number (course_left old later) z f.line f.left in
           front_passes old later (so_far.events ++ e ∷ []) f.calls f.line f.left none (subst F (sym (append_assoc so_far.events (e ∷ []) f.calls)) (so_far.nears later (e ∷ f.calls) f.line f.left here));
     }

@@ -18,7 +18,7 @@ use Rattle.actor_core.specs.Standings.{progress_of}
 use Rattle.run_core.specs.declared.player.Player.{Player}
 use Rattle.run_core.specs.Leading.{Leads}
 use Rattle.mount_model.specs.History.{AreBy}
-use Rattle.run_core.specs.Players.{IsFit, IsMade, IsSafeProgress}
+use Rattle.run_core.specs.Players.{IsFit, IsMade, IsSafeProgress, waiting_in}
 
 fine_along : (old : State) (events : List Event) (new : State) → Leads old events new → IsFine old → IsFine new
 fine_along old events new leads fine = subst IsFine leads.ends (along old events leads.lawful fine)
@@ -56,7 +56,7 @@ fit_lasts player other apart old events new leads by_it fit = record {
 }
 
 -- with no statement in progress a player may go on
-pub idle_fit : (player : Player) (now : State) (kept : Kept) → progress_of player.actor ≡ idle kept → All IsMade player.queue.items → IsFine now → IsFit player now
+pub idle_fit : (player : Player) (now : State) (kept : Kept) → progress_of player.actor ≡ idle kept → All IsMade (waiting_in player) → IsFine now → IsFit player now
 idle_fit player now kept is made fine = record {
   fine = fine;
   safe = (let P : Progress → Type 0 = λ z. IsSafeProgress player.number z now in subst P (sym is) tt);

@@ -18,7 +18,7 @@ use Rattle.run_core.specs.declared.player.Player.{Player}
 use Rattle.run_core.specs.Course.{Course}
 use Rattle.run_core.specs.Written.{is_greeting}
 use Rattle.run_core.specs.Leading.{MadeCall}
-use Rattle.run_core.specs.Players.{course_at, course_left, IsSafeProgress, IsMade, IsFit, in_progress, lines_left}
+use Rattle.run_core.specs.Players.{course_at, course_left, IsSafeProgress, IsMade, IsFit, in_progress, lines_left, waiting_in}
 use Rattle.run_core.specs.Moving.{Comes, Turns, Advances, IsDone, Begins}
 use Rattle.mount_sound.specs.Sound.{IsFine}
 use Rattle.mount_sound.proofs.Facts.{step_fine}
@@ -35,10 +35,10 @@ use Rattle.run_core.proofs.Players.Works.{AsksNext, TellsNext, rests, says, no_c
 -- the player is the same but for its actor
 pub record Same (old new : Player) : Type 0 where
   pub number : new.number ≡ old.number
-  pub queue : new.queue.items ≡ old.queue.items
+  pub queue : waiting_in new ≡ waiting_in old
   pub ahead : new.ahead.items ≡ old.ahead.items
 
-pub same_made : (old new : Player) → Same old new → All IsMade old.queue.items → All IsMade new.queue.items
+pub same_made : (old new : Player) → Same old new → All IsMade (waiting_in old) → All IsMade (waiting_in new)
 same_made old new same made = subst (λ (z : List Numbered). All IsMade z) (sym same.queue) made
 
 -- with the statement in progress as it was
@@ -54,7 +54,7 @@ same_left old new same busy =
     let P : List Line × List Numbered × ℕ → Type 0 = λ z. length z.0 + z.2 + length z.1 ≡ lines_left old in
     subst P (λ i. (sym same.ahead i, sym same.queue i, sym busy i)) refl
 
-pub course_same : (old new : Player) (progress : Progress) (later : Kept → Course) → Same old new → progress_of new.actor ≡ progress → course_left new later ≡ course_at progress old.queue.items (λ kept. pauses (later kept))
+pub course_same : (old new : Player) (progress : Progress) (later : Kept → Course) → Same old new → progress_of new.actor ≡ progress → course_left new later ≡ course_at progress (waiting_in old) (λ kept. pauses (later kept))
 course_same old new progress later same is =
     let P : Progress × List Numbered → Course = λ z. course_at z.0 z.1 (λ kept. pauses (later kept)) in
     ap P (λ i. (is i, same.queue i))
@@ -140,9 +140,9 @@ greeted old new start end question reply fit a free made memory is same =
       by_it = (refl, tt);
       changes = λ later more lines left t.
           let next : Kept → Course = λ kept. pauses (later kept) in
-          let there : Course = course_at (going a.number (a.next reply)) old.queue.items next in
+          let there : Course = course_at (going a.number (a.next reply)) (waiting_in old) next in
           let goes : TakesTurn is_greeting old.number there more lines left = subst (λ (z : Course). TakesTurn is_greeting old.number z more lines left) (course_same old new (going a.number (a.next reply)) later same reached) t in
-          a.turn old.number old.queue.items next e more lines left refl refl
+          a.turn old.number (waiting_in old) next e more lines left refl refl
           (subst (λ b. MatchBool b (TakesTurn is_greeting old.number there more lines left) ((more ≡ []) × (lines ≡ []) × (left ≡ there))) (sym free) goes);
       ahead = same.ahead ∙ sym (append-nil old.ahead.items);
       number = same.number;
@@ -165,11 +165,11 @@ called old new start end question reply fit a free made memory is same =
       by_it = (refl, tt);
       changes = λ later.
           let next : Kept → Course = λ kept. pauses (later kept) in
-          let there : Course = course_at (going a.number (a.next reply)) old.queue.items next in
+          let there : Course = course_at (going a.number (a.next reply)) (waiting_in old) next in
           let none : List Event = [] in
           let silence : List Line = [] in
           let Goes : Bool → Type 0 = λ b. MatchBool b (TakesTurn is_greeting old.number there none silence (course_left new later)) ((none ≡ []) × (silence ≡ []) × (course_left new later ≡ there)) in
-          a.turn old.number old.queue.items next e none silence (course_left new later) refl refl
+          a.turn old.number (waiting_in old) next e none silence (course_left new later) refl refl
           (subst Goes (sym free) (refl, refl, course_same old new (going a.number (a.next reply)) later same reached));
       ahead = same.ahead ∙ sym (append-nil old.ahead.items);
       number = same.number;
@@ -181,11 +181,11 @@ called old new start end question reply fit a free made memory is same =
 
 -- the line of the statement in progress is ahead
 pub said : (old new : Player) (now : State) (line : Line) → IsFit old now → (t : TellsNext (progress_of old.actor) line) → progress_of new.actor ≡ idle t.kept
-    → new.number ≡ old.number → new.queue.items ≡ old.queue.items → new.ahead.items ≡ old.ahead.items ++ line ∷ [] → Advances Comes old now new now
+    → new.number ≡ old.number → waiting_in new ≡ waiting_in old → new.ahead.items ≡ old.ahead.items ++ line ∷ [] → Advances Comes old now new now
 said old new now line fit t is number queue ahead =
     let lines : length new.ahead.items ≡ length old.ahead.items + 1 = ap length ahead ∙ length-append old.ahead.items (line ∷ []) in
     let none : in_progress (progress_of new.actor) ≡ 0 = ap in_progress is in
-    let others : length new.queue.items ≡ length old.queue.items = ap length queue in
+    let others : length (waiting_in new) ≡ length (waiting_in old) = ap length queue in
     let one : in_progress (progress_of old.actor) ≡ 1 = t.busy in
     record {
       events = [];
@@ -196,7 +196,7 @@ said old new now line fit t is number queue ahead =
       changes = λ later more lines left goes.
           let next : Kept → Course = λ kept. pauses (later kept) in
           let P : Progress × List Numbered → Type 0 = λ z. TakesTurn is_greeting old.number (course_at z.0 z.1 next) more lines left in
-          t.turn old.number old.queue.items next more lines left (subst P (λ i. (is i, queue i)) goes);
+          t.turn old.number (waiting_in old) next more lines left (subst P (λ i. (is i, queue i)) goes);
       ahead = ahead;
       number = number;
       fit = idle_fit new now t.kept is (subst (λ (z : List Numbered). All IsMade z) (sym queue) fit.made) fit.fine;
@@ -254,7 +254,7 @@ done_turn player now fit done = record {
   leads = leads_none now;
   had_memory = tt;
   by_it = tt;
-  changes = λ later. idle_turn player.number (progress_of player.actor) player.queue.items later done.idle done.none;
+  changes = λ later. idle_turn player.number (progress_of player.actor) (waiting_in player) later done.idle done.none;
   ahead = sym (append-nil player.ahead.items);
   number = refl;
   fit = fit;
@@ -280,7 +280,7 @@ idles_at : (progress : Progress) (kept : Kept) → progress ≡ idle kept → Is
 idles_at progress kept is = let P : Progress → Type 0 = λ z. IsIdle z in subst P (sym is) tt
 
 pub no_further_call : (old new : Player) (mid : Progress) (now : State) → IsFit old now → None ≡ ask_of (progress_of old.actor) → mid ≡ given (progress_of old.actor) → progress_of new.actor ≡ line_taken mid
-    → new.ahead.items ≡ old.ahead.items ++ option_to_list (waiting_line mid) → new.number ≡ old.number → new.queue.items ≡ old.queue.items → Ends old new now
+    → new.ahead.items ≡ old.ahead.items ++ option_to_list (waiting_line mid) → new.number ≡ old.number → waiting_in new ≡ waiting_in old → Ends old new now
 no_further_call old new mid now fit none given_is taken ahead number queue = elim (no_call old.number now (progress_of old.actor) fit.safe none) as (λ _. Ends old new now) [
   | rests kept same ↦
       let mid_is : mid ≡ idle kept = given_is ∙ ap given same in
@@ -295,33 +295,33 @@ no_further_call old new mid now fit none given_is taken ahead number queue = eli
 ]
 
 -- the next statement is begun
-pub begins_next : (old new : Player) (next : Numbered) → IsIdle (progress_of old.actor) → old.queue.items ≡ next ∷ new.queue.items → new.number ≡ old.number → new.ahead.items ≡ old.ahead.items
+pub begins_next : (old new : Player) (next : Numbered) → IsIdle (progress_of old.actor) → waiting_in old ≡ next ∷ waiting_in new → new.number ≡ old.number → new.ahead.items ≡ old.ahead.items
     → progress_of new.actor ≡ begun_at (progress_of old.actor) next.line next.statement → Begins old new
 begins_next old new next idles queue number ahead is =
     let kept = idle_kept (progress_of old.actor) idles in
     let new_is : progress_of new.actor ≡ going next.line (work_of kept.0 next.statement) = is ∙ ap (λ z. begun_at z next.line next.statement) kept.1 in
     let lines : length new.ahead.items ≡ length old.ahead.items = ap length ahead in
-    let shorter : length old.queue.items ≡ length (next ∷ new.queue.items) = ap length queue in
+    let shorter : length (waiting_in old) ≡ length (next ∷ waiting_in new) = ap length queue in
     let was : in_progress (progress_of old.actor) ≡ 0 = ap in_progress kept.1 in
     let now : in_progress (progress_of new.actor) ≡ 1 = ap in_progress new_is in
     record {
       same = λ later.
           let after : Kept → Course = λ z. pauses (later z) in
           let C : Progress × List Numbered → Course = λ z. course_at z.0 z.1 after in
-          let before : course_left old later ≡ course_at (idle kept.0) (next ∷ new.queue.items) after = ap C (λ i. (kept.1 i, queue i)) in
-          let then_on : course_left new later ≡ course_at (going next.line (work_of kept.0 next.statement)) new.queue.items after = ap (λ z. course_at z new.queue.items after) new_is in
+          let before : course_left old later ≡ course_at (idle kept.0) (next ∷ waiting_in new) after = ap C (λ i. (kept.1 i, queue i)) in
+          let then_on : course_left new later ≡ course_at (going next.line (work_of kept.0 next.statement)) (waiting_in new) after = ap (λ z. course_at z (waiting_in new) after) new_is in
           then_on ∙ sym before;
       ahead = ahead;
       number = number;
       fit = λ now fit.
-          let made : All IsMade (next ∷ new.queue.items) = subst (λ (z : List Numbered). All IsMade z) queue fit.made in
+          let made : All IsMade (next ∷ waiting_in new) = subst (λ (z : List Numbered). All IsMade z) queue fit.made in
           let room = capacity old.actor kept.0 kept.1 in
           let safe : IsSafeProgress new.number (going next.line (work_of kept.0 next.statement)) now =
           (comes_to_line kept.0 next.statement, work_safe new.number kept.0 next.statement now room.0 room.1 fit.fine) in
           record {
             fine = fit.fine;
             safe = (let P : Progress → Type 0 = λ z. IsSafeProgress new.number z now in subst P (sym new_is) safe);
-            made = All-tail IsMade next new.queue.items made;
+            made = All-tail IsMade next (waiting_in new) made;
           };
       left = omega (arith, lines, shorter, was, now);
     }

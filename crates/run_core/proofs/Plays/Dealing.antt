@@ -14,7 +14,7 @@ use Rattle.actor_core.specs.Progress.{Progress, idle, going, asked, handed, told
 use Rattle.actor_core.specs.Standings.{progress_of}
 use Rattle.run_core.specs.declared.player.Player.{Player}
 use Rattle.run_core.specs.Course.{Course, one_by_one, own, through}
-use Rattle.run_core.specs.Players.{course_at, course_left, playing, resting, IsSafeProgress, IsMade, in_progress, lines_left, Stands}
+use Rattle.run_core.specs.Players.{course_at, course_left, playing, resting, IsSafeProgress, IsMade, in_progress, lines_left, Stands, waiting_in}
 use Rattle.run_core.specs.World.{AllStand, At, IsDealt, Dealt}
 use Rattle.run_core.proofs.Players.Fitness.{idle_fit}
 use Rattle.run_core.proofs.Plays.Tables.{at_all, own_yes, own_no}
@@ -23,7 +23,7 @@ use Rattle.run_core.proofs.Plays.Tables.{at_all, own_yes, own_no}
 
 pub dealt_none : (players : List Player) → Dealt [] players players
 dealt_none players = record {
-  each = λ place player here. (player, here, record { queue = sym (append-nil player.queue.items); number = refl; progress = refl; ahead = refl });
+  each = λ place player here. (player, here, record { queue = sym (append-nil (waiting_in player)); number = refl; progress = refl; ahead = refl });
   long = refl;
 }
 
@@ -32,7 +32,7 @@ own_both n first rest = filter-append (λ (s : Numbered). s.actor == n) first re
 
 dealt_then : (a b c : List Numbered) (old mid new : Player) → c ≡ a ++ b → IsDealt a old mid → IsDealt b mid new → IsDealt c old new
 dealt_then a b c old mid new is x y = record {
-  queue = y.queue ∙ (ap (λ z. z ++ b) x.queue ∙ (append_assoc old.queue.items a b ∙ ap (λ z. old.queue.items ++ z) (sym is)));
+  queue = y.queue ∙ (ap (λ z. z ++ b) x.queue ∙ (append_assoc (waiting_in old) a b ∙ ap (λ z. waiting_in old ++ z) (sym is)));
   number = y.number ∙ x.number;
   progress = y.progress ∙ x.progress;
   ahead = y.ahead ∙ x.ahead;
@@ -65,7 +65,7 @@ dealt_more statements i s old mid new taken d at =
 pub record Rests (player : Player) : Type 0 where
   pub kept : Kept
   pub progress : progress_of player.actor ≡ idle kept
-  pub queue : player.queue.items ≡ []
+  pub queue : waiting_in player ≡ []
   pub ahead : player.ahead.items ≡ []
 
 no_items : {X : Type 0} (xs : List X) → length xs ≡ 0 → xs ≡ []
@@ -87,7 +87,7 @@ rests_of place player now stands =
     record {
       kept = kept.0;
       progress = kept.1;
-      queue = no_items player.queue.items (omega (arith, left));
+      queue = no_items (waiting_in player) (omega (arith, left));
       ahead = no_items player.ahead.items (omega (arith, left));
     }
 
@@ -106,11 +106,11 @@ pub dealt_stands : (count place : ℕ) (statements : List Numbered) (old new : P
     → Stands [] place old now → IsDealt (own place statements) old new → Stands statements place new now
 dealt_stands count place statements old new now fits stands d =
     let r = rests_of place old now stands in
-    let queue : new.queue.items ≡ own place statements = d.queue ∙ ap (λ z. z ++ own place statements) r.queue in
+    let queue : waiting_in new ≡ own place statements = d.queue ∙ ap (λ z. z ++ own place statements) r.queue in
     let progress : progress_of new.actor ≡ idle r.kept = d.progress ∙ r.progress in
     let ahead : length new.ahead.items ≡ 0 = ap length (d.ahead ∙ r.ahead) in
     let busy : in_progress (progress_of new.actor) ≡ 0 = ap in_progress progress in
-    let many : length new.queue.items ≡ length (own place statements) = ap length queue in
+    let many : length (waiting_in new) ≡ length (own place statements) = ap length queue in
     record {
       number = d.number ∙ stands.number;
       fit = idle_fit new now r.kept progress (subst (λ (z : List Numbered). All IsMade z) (sym queue) (made_all count place statements fits)) stands.fit.fine;
@@ -127,13 +127,13 @@ pub dealt_course : (place : ℕ) (phase : Phase) (later : List Phase) (old new :
 dealt_course place phase later old new now stands d =
     let r = rests_of place old now stands in
     let next : ℕ → Kept → Course = λ n kept. pauses (through n later kept) in
-    let before : course_at (progress_of old.actor) old.queue.items (through old.number (phase ∷ later)) ≡ one_by_one (own old.number phase.statements) (next old.number) r.kept =
+    let before : course_at (progress_of old.actor) (waiting_in old) (through old.number (phase ∷ later)) ≡ one_by_one (own old.number phase.statements) (next old.number) r.kept =
     (let C : Progress × List Numbered → Course = λ z. course_at z.0 z.1 (through old.number (phase ∷ later)) in ap C (λ i. (r.progress i, r.queue i))) in
     let own_place : own place phase.statements ≡ own old.number phase.statements = ap (λ n. own n phase.statements) (sym stands.number) in
-    let queue : new.queue.items ≡ own old.number phase.statements = (d.queue ∙ ap (λ z. z ++ own place phase.statements) r.queue) ∙ own_place in
-    let after : course_at (progress_of new.actor) new.queue.items (next new.number) ≡ one_by_one (own old.number phase.statements) (next old.number) r.kept =
+    let queue : waiting_in new ≡ own old.number phase.statements = (d.queue ∙ ap (λ z. z ++ own place phase.statements) r.queue) ∙ own_place in
+    let after : course_at (progress_of new.actor) (waiting_in new) (next new.number) ≡ one_by_one (own old.number phase.statements) (next old.number) r.kept =
     (let C : Progress × List Numbered × ℕ → Course = λ z. course_at z.0 z.1 (next z.2) in ap C (λ i. ((d.progress ∙ r.progress) i, queue i, d.number i))) in
-    let left : course_at (progress_of old.actor) old.queue.items (through old.number (phase ∷ later)) ≡ course_left new (through new.number later) = before ∙ sym after in
+    let left : course_at (progress_of old.actor) (waiting_in old) (through old.number (phase ∷ later)) ≡ course_left new (through new.number later) = before ∙ sym after in
     (λ i. performer (sym d.number i) (left i) (sym d.ahead i))
 
 -- at the end of a phase it waits for the next one
@@ -142,5 +142,5 @@ waits place later player now stands =
     let r = rests_of place player now stands in
     let C : (Kept → Course) → Progress × List Numbered → Course = λ next z. course_at z.0 z.1 next in
     let with_pause : course_left player (through player.number later) ≡ pauses (through player.number later r.kept) = ap (C (λ kept. pauses (through player.number later kept))) (λ i. (r.progress i, r.queue i)) in
-    let without : course_at (progress_of player.actor) player.queue.items (through player.number later) ≡ through player.number later r.kept = ap (C (through player.number later)) (λ i. (r.progress i, r.queue i)) in
+    let without : course_at (progress_of player.actor) (waiting_in player) (through player.number later) ≡ through player.number later r.kept = ap (C (through player.number later)) (λ i. (r.progress i, r.queue i)) in
     (λ i. performer player.number ((with_pause ∙ ap (λ z. pauses z) (sym without)) i) (r.ahead i))

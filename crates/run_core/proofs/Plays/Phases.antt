@@ -24,7 +24,7 @@ use Rattle.run_core.specs.Written.{is_greeting, whose, turns_of, written_of}
 use Rattle.run_core.specs.Cast.{cast_from}
 use Rattle.run_core.specs.Breaking.{BreakInOrder}
 use Rattle.run_core.specs.Play.{IsPlay}
-use Rattle.run_core.specs.Players.{course_at, playing, resting, IsMade, in_progress, Stands}
+use Rattle.run_core.specs.Players.{course_at, playing, resting, IsMade, in_progress, Stands, waiting_in}
 use Rattle.run_core.specs.World.{AllStand, Dealt, TookTurns, Tells, PlayedPhase, PlayedSoFar, IsCast}
 use Rattle.run_core.proofs.Players.Leading.{leads_none, leads_both}
 use Rattle.share_workers.proofs.Facts.{memory_both}
@@ -174,13 +174,13 @@ at_end {X} P k (z ∷ xs) x each last (suc i) y here =
     subst (λ n. P n y) (sym (number i)) (at_end P (k + 1) xs x (λ j w there. subst (λ n. P n w) (number j) (each (suc j) w there)) (subst (λ n. P n x) (number (length xs)) last) i y here)
 
 pub cast_more : (actors : List ActorDecl) (i : ℕ) (one : ActorDecl) (players : List Player) (player : Player) → take (i + 1) actors ≡ take i actors ++ one ∷ [] → IsCast (take i actors) players → player.number ≡ length players
-    → progress_of player.actor ≡ idle (fresh one.host one.cap) → player.queue.items ≡ [] → player.ahead.items ≡ [] → IsCast (take (i + 1) actors) (players ++ player ∷ [])
+    → progress_of player.actor ≡ idle (fresh one.host one.cap) → waiting_in player ≡ [] → player.ahead.items ≡ [] → IsCast (take (i + 1) actors) (players ++ player ∷ [])
 cast_more actors i one players player taken c number progress queue ahead =
     let first = take i actors in
     let place : player.number ≡ length first = number ∙ c.long in
     let busy : in_progress (progress_of player.actor) ≡ 0 = ap in_progress progress in
     let lines : length player.ahead.items ≡ 0 = ap length ahead in
-    let others : length player.queue.items ≡ 0 = ap length queue in
+    let others : length (waiting_in player) ≡ 0 = ap length queue in
     let stands : (now : State) → IsFine now → Stands [] player.number player now = λ now fine. record {
       number = refl;
       fit = idle_fit player now (fresh one.host one.cap) progress (subst (λ (z : List Numbered). All IsMade z) (sym queue) (All-nil IsMade)) fine;

@@ -7,10 +7,10 @@ use Rattle.mount_model.specs.History.{Event}
 use Rattle.mount_model.specs.Paths.{Name}
 use Rattle.reader_laws.specs.Moments.{Moment, moment_after, next_moment}
 use Rattle.reader_laws.proofs.Gathered.Facts.{moment-append}
-use Rattle.headline_laws.specs.Changing.{Change, IsChange, IsFreeName, IsHolderOf, IsRenamed, IsTruncated, RenamesFile, TruncatesFile, until_changed}
+use Rattle.headline_laws.specs.Changing.{Change, IsChange, IsFreeName, IsHolderOf, IsRenamed, IsTopIn, IsTruncated, RenamesFile, TruncatesFile, until_changed}
 use Rattle.reader_laws.specs.Naming.{IsRoomNamed}
 use Rattle.headline_laws.specs.Opening.{Stretch}
-use Rattle.headline_laws.specs.Refusing.{Attempt, FindsHeld, FindsNone, FindsOpen, FindsTaken, HadOpenFirst, IsAttempt, WasShut, as_tried}
+use Rattle.headline_laws.specs.Refusing.{Attempt, FindsHeld, FindsNone, FindsOpen, FindsSpent, FindsTaken, HadOpenFirst, IsAttempt, WasShut, as_tried}
 use Rattle.headline_laws.proofs.Plays.Holds.Held.{alone}
 
 -- moments behind what came before
@@ -113,6 +113,15 @@ module _ (start : Moment) (n : ℕ) (before greeting mine : List Event) where
     made = change_there name _ _ f.change f.made;
     other = f.other;
     taken = subst (λ m. IsRoomNamed m to f.other) (changed_there f.change) f.taken;
+  }
+
+  pub spent_there : (name : Name) (size : ℕ) → FindsSpent Now n (alone mine) name size → FindsSpent start n Whole name size
+  spent_there name size f = record {
+    top = f.top;
+    change = behind f.change;
+    made = change_there name _ _ f.change f.made;
+    stood = subst (λ m. IsTopIn m f.change.room f.top) (changed_there f.change) f.stood;
+    spent = f.spent;
   }
 
   pub none_there : (name : Name) → FindsNone Now n (alone mine) name → FindsNone start n Whole name

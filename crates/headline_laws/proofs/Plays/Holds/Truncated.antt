@@ -1,5 +1,5 @@
 -- What the line of a truncate shows of its container.
-use Rattle.std.proofs.Common.{◌≡◌, ℕ, ◌<◌, List, [], ◌∷◌, ◌++◌, Some, None, Ok, Err, refl, sym, ap, ◌∙◌, inl, inr, subst, arith, append_assoc}
+use Rattle.std.proofs.Common.{◌≡◌, ℕ, ◌<◌, List, [], ◌∷◌, ◌++◌, Some, None, Result, Ok, Err, refl, sym, ap, ◌∙◌, inl, inr, subst, arith, append_assoc}
 use Rattle.std.specs.Prelude.{slice_get}
 use Rattle.std.proofs.lemmas.List.Elements.{All-from_recursion}
 use Rattle.plfs_types.specs.declared.limits.TheConstants.{MAX_STAMP}
@@ -12,7 +12,7 @@ use Rattle.store_api.specs.declared.tree.Tree.{Tree}
 use Rattle.store_laws.specs.Changes.{Created}
 use Rattle.store_laws.specs.Files.{file_at}
 use Rattle.store_laws.proofs.Facts.{acts_told, create_told, slice_get-slice_set}
-use Rattle.mount_model.specs.declared.call.Call.TheVariants.{Mark}
+use Rattle.mount_model.specs.declared.call.Call.TheVariants.{Look, Mark}
 use Rattle.mount_model.specs.declared.call.Look.TheVariants.{List as ListFolder}
 use Rattle.mount_model.specs.declared.reply.Reply.{Reply}
 use Rattle.mount_model.specs.declared.reply.Reply.TheVariants.{Marked, Refused}
@@ -20,12 +20,15 @@ use Rattle.mount_model.specs.declared.row.Holder.{Holder}
 use Rattle.mount_model.specs.History.{Event}
 use Rattle.mount_model.specs.Holding.{TruncatesAt, truncate_check, truncate_outcome, truncate_stamp, truncate_step}
 use Rattle.mount_model.specs.Making.{Refuses, Told}
+use Rattle.mount_model.specs.declared.stuck.Stuck.{Stuck}
 use Rattle.mount_model.specs.FlowListed.{told_by}
+use Rattle.mount_model.specs.FlowReplies.{Tries}
 use Rattle.mount_model.specs.Paths.{Name, metadata, trunc_path, truncs}
 use Rattle.mount_model.specs.State.{State, Table}
-use Rattle.mount_model.specs.Step.{Answers}
+use Rattle.mount_model.specs.Replies.{FitsCall}
+use Rattle.mount_model.specs.Step.{Answers, IsStep}
 use Rattle.mount_model.specs.Table.{holder_of}
-use Rattle.mount_model.proofs.Facts.{MayTruncate, is_holding, match_cases, may_truncate}
+use Rattle.mount_model.proofs.Facts.{MayTruncate, is_holding, match_cases, may_truncate, step_fits}
 use Rattle.mount_sound.specs.Ledger.{Written}
 use Rattle.mount_sound.specs.Owed.{IsLawful}
 use Rattle.mount_model.specs.Running.{Runs, unbroken}
@@ -40,6 +43,7 @@ use Rattle.headline_laws.specs.Changing.{IsHolderOf, IsTimed, IsTopIn, IsTruncat
 use Rattle.headline_laws.proofs.Plays.Holds.Held.{HoldsOnly, alone, answered_so, change_of, changed, has_called, has_held, has_looked, its_step, let_go_so, went_past}
 use Rattle.headline_laws.proofs.Plays.Holds.Issued.{issues_above}
 use Rattle.headline_laws.proofs.Plays.Holds.Tops.{metas_told, top_later, truncs_told}
+use Rattle.headline_laws.proofs.Plays.Refused.Reasons.{EndsFor, IsNoStamp, metadata_for, truncs_for}
 
 -- ---- what a truncate did
 
@@ -155,8 +159,8 @@ marked_by : (reply : Reply) (stamp : ℕ) → marked reply ≡ Ok stamp → repl
 marked_by (Marked other) stamp e = let same : other ≡ stamp = cc in ap Marked same
 marked_by reply stamp e = absurd (cc)
 
--- What was called from the hold on to the truncate's call, and that call.
-record HasMarked (n holder room size stamp : ℕ) (m : Moment) (events : List Event) : Type 0 where
+-- What was called from the hold on to the truncate's call, and that call, which was answered so.
+pub record HasMarked (n holder room size : ℕ) (reply : Reply) (m : Moment) (events : List Event) : Type 0 where
   pub top : ℕ
   pub more : List Event
   pub event : Event
@@ -164,33 +168,15 @@ record HasMarked (n holder room size stamp : ℕ) (m : Moment) (events : List Ev
   pub split : events ≡ more ++ event ∷ later
   pub own : event.caller ≡ n
   pub asked : event.ask ≡ unbroken (Mark holder size top)
-  pub told : event.reply ≡ Marked stamp
+  pub told : event.reply ≡ reply
   pub lawful : IsLawful (moment_after m more).state (event ∷ later)
   pub sound : IsSoundAt (moment_after m more)
   pub only : HoldsOnly n holder room (moment_after m more).state
   pub stood : IsTopIn (moment_after m more) room top
 
-marks_so : (n holder room size top stamp : ℕ) (m : Moment) (events : List Event) → IsLawful m.state events → IsSoundAt m → HoldsOnly n holder room m.state → IsTopIn m room top → Runs n (marks size holder top) events (Ok stamp) → HasMarked n holder room size stamp m events
-marks_so n holder room size top stamp m events lawful sound only stood runs =
-    let c = has_called n holder room m (Mark holder size top) (λ reply. lets_go holder (marked reply)) events (Ok stamp) lawful sound only runs in
-    record {
-      top = top;
-      more = c.before;
-      event = c.event;
-      later = c.later;
-      split = c.split;
-      own = c.own;
-      asked = c.asked;
-      told = marked_by c.event.reply stamp (let_go_so n holder (marked c.event.reply) c.later stamp c.runs);
-      lawful = c.lawful;
-      sound = c.sound;
-      only = c.only;
-      stood = top_later m c.before room top (legal_first m c.before (c.event ∷ c.later) (subst (IsLawful m.state) c.split lawful)) sound stood;
-    }
-
 -- behind a look
-behind_look : (n holder room size stamp : ℕ) (m : Moment) (first rest events : List Event) → events ≡ first ++ rest → HasMarked n holder room size stamp (moment_after m first) rest → HasMarked n holder room size stamp m events
-behind_look n holder room size stamp m first rest events is k =
+behind_look : (n holder room size : ℕ) (reply : Reply) (m : Moment) (first rest events : List Event) → events ≡ first ++ rest → HasMarked n holder room size reply (moment_after m first) rest → HasMarked n holder room size reply m events
+behind_look n holder room size reply m first rest events is k =
     let there : moment_after m (first ++ k.more) ≡ moment_after (moment_after m first) k.more = moment-append m first k.more in
     record {
       top = k.top;
@@ -214,28 +200,63 @@ stood_behind n room top m calls first rest events looking is split lawful sound 
     let on : IsLawful (moment_after m calls).state (looking ∷ []) = legal_first (moment_after m calls) (looking ∷ []) rest (legal_rest m calls (looking ∷ [] ++ rest) all) in
     subst (λ x. IsTopIn x room top) (sym (ap (moment_after m) is ∙ moment-append m calls (looking ∷ []))) (top_later (moment_after m calls) (looking ∷ []) room top on sound stood)
 
-truncs_so : (n holder room size top stamp : ℕ) (m : Moment) (events : List Event) → IsLawful m.state events → IsSoundAt m → HoldsOnly n holder room m.state → IsTopIn m room top → Runs n (lists_truncs size room holder top) events (Ok stamp) → HasMarked n holder room size stamp m events
-truncs_so n holder room size top stamp m events lawful sound only stood runs =
-    let l = has_looked n holder room m room (ListFolder truncs) (λ reply. or_lets_go holder (marks size holder) (told_by truncs (λ names. truncs_top names top) reply)) events (Ok stamp) lawful sound only runs in
-    let w = went_past n holder (marks size holder) (told_by truncs (λ names. truncs_top names top) l.reply) l.rest stamp l.runs in
-    let all : IsLawful m.state (l.calls ++ (l.looking ∷ [] ++ l.rest)) = subst (IsLawful m.state) (l.split ∙ ap (λ z. z ++ l.rest) l.first_is ∙ append_assoc l.calls (l.looking ∷ []) l.rest) lawful in
-    let then_so : IsTopIn (moment_after m l.calls) room top = top_later m l.calls room top (legal_first m l.calls (l.looking ∷ [] ++ l.rest) all) sound stood in
-    let here : IsTopIn (moment_after m l.calls) room w.0 = truncs_told (moment_after m l.calls) l.sound_at n room l.reply l.looking.after top w.0 l.so w.2 then_so in
-    behind_look n holder room size stamp m l.first l.rest events l.split (marks_so n holder room size w.0 stamp (moment_after m l.first) l.rest l.lawful l.sound l.only (stood_behind n room w.0 m l.calls l.first l.rest events l.looking l.first_is l.split lawful l.sound_at here) w.1)
+-- Where it comes to this end, the truncate's call was answered so, and each listing told a stamp.
+pub record ComesBy (n holder room : ℕ) (out : Result ℕ Stuck) (reply : Reply) : Type 0 where
+  pub ends : (r : Reply) (m : Moment) (events : List Event) → IsLawful m.state events → Runs n (lets_go holder (marked r)) events out → r ≡ reply
+  pub past : (folder : Name) (tells : List Name → Result ℕ Stuck) (next : ℕ → Tries ℕ) (r : Reply) (m : Moment) (events : List Event) → FitsCall (Look room (ListFolder folder)) r → ((names : List Name) → EndsFor IsNoStamp (tells names)) → IsLawful m.state events → Runs n (or_lets_go holder next (told_by folder tells r)) events out
+      → (a : ℕ) × Runs n (next a) events out × (told_by folder tells r ≡ Ok a)
 
-metadata_so : (n holder room size stamp : ℕ) (m : Moment) (events : List Event) → IsLawful m.state events → IsSoundAt m → HoldsOnly n holder room m.state → Runs n (lists_metadata size room holder) events (Ok stamp) → HasMarked n holder room size stamp m events
-metadata_so n holder room size stamp m events lawful sound only runs =
-    let l = has_looked n holder room m room (ListFolder metadata) (λ reply. or_lets_go holder (lists_truncs size room holder) (told_by metadata (λ names. metadata_top names 0) reply)) events (Ok stamp) lawful sound only runs in
-    let w = went_past n holder (lists_truncs size room holder) (told_by metadata (λ names. metadata_top names 0) l.reply) l.rest stamp l.runs in
-    let here : IsTopIn (moment_after m l.calls) room w.0 = metas_told (moment_after m l.calls) l.sound_at n room l.reply l.looking.after w.0 l.so w.2 in
-    behind_look n holder room size stamp m l.first l.rest events l.split (truncs_so n holder room size w.0 stamp (moment_after m l.first) l.rest l.lawful l.sound l.only (stood_behind n room w.0 m l.calls l.first l.rest events l.looking l.first_is l.split lawful l.sound_at here) w.1)
+module _ (n holder room size : ℕ) (out : Result ℕ Stuck) (reply : Reply) (by : ComesBy n holder room out reply) where
+  marks_so : (top : ℕ) (m : Moment) (events : List Event) → IsLawful m.state events → IsSoundAt m → HoldsOnly n holder room m.state → IsTopIn m room top → Runs n (marks size holder top) events out → HasMarked n holder room size reply m events
+  marks_so top m events lawful sound only stood runs =
+      let c = has_called n holder room m (Mark holder size top) (λ r. lets_go holder (marked r)) events out lawful sound only runs in
+      record {
+        top = top;
+        more = c.before;
+        event = c.event;
+        later = c.later;
+        split = c.split;
+        own = c.own;
+        asked = c.asked;
+        told = by.ends c.event.reply (next_moment (moment_after m c.before) c.event) c.later c.lawful.2 c.runs;
+        lawful = c.lawful;
+        sound = c.sound;
+        only = c.only;
+        stood = top_later m c.before room top (legal_first m c.before (c.event ∷ c.later) (subst (IsLawful m.state) c.split lawful)) sound stood;
+      }
+
+  fits_look : (folder : Name) (m : Moment) (r : Reply) (after : State) → IsStep m.state n (unbroken (Look room (ListFolder folder))) r after → FitsCall (Look room (ListFolder folder)) r
+  fits_look folder m r after step = step_fits m.state after n (unbroken (Look room (ListFolder folder))) r step
+
+  truncs_so : (top : ℕ) (m : Moment) (events : List Event) → IsLawful m.state events → IsSoundAt m → HoldsOnly n holder room m.state → IsTopIn m room top → Runs n (lists_truncs size room holder top) events out → HasMarked n holder room size reply m events
+  truncs_so top m events lawful sound only stood runs =
+      let l = has_looked n holder room m room (ListFolder truncs) (λ r. or_lets_go holder (marks size holder) (told_by truncs (λ names. truncs_top names top) r)) events out lawful sound only runs in
+      let w = by.past truncs (λ names. truncs_top names top) (marks size holder) l.reply (moment_after m l.first) l.rest (fits_look truncs (moment_after m l.calls) l.reply l.looking.after l.so) (λ names. truncs_for IsNoStamp names top) l.lawful l.runs in
+      let all : IsLawful m.state (l.calls ++ (l.looking ∷ [] ++ l.rest)) = subst (IsLawful m.state) (l.split ∙ ap (λ z. z ++ l.rest) l.first_is ∙ append_assoc l.calls (l.looking ∷ []) l.rest) lawful in
+      let then_so : IsTopIn (moment_after m l.calls) room top = top_later m l.calls room top (legal_first m l.calls (l.looking ∷ [] ++ l.rest) all) sound stood in
+      let here : IsTopIn (moment_after m l.calls) room w.0 = truncs_told (moment_after m l.calls) l.sound_at n room l.reply l.looking.after top w.0 l.so w.2 then_so in
+      behind_look n holder room size reply m l.first l.rest events l.split (marks_so w.0 (moment_after m l.first) l.rest l.lawful l.sound l.only (stood_behind n room w.0 m l.calls l.first l.rest events l.looking l.first_is l.split lawful l.sound_at here) w.1)
+
+  pub metadata_so : (m : Moment) (events : List Event) → IsLawful m.state events → IsSoundAt m → HoldsOnly n holder room m.state → Runs n (lists_metadata size room holder) events out → HasMarked n holder room size reply m events
+  metadata_so m events lawful sound only runs =
+      let l = has_looked n holder room m room (ListFolder metadata) (λ r. or_lets_go holder (lists_truncs size room holder) (told_by metadata (λ names. metadata_top names 0) r)) events out lawful sound only runs in
+      let w = by.past metadata (λ names. metadata_top names 0) (lists_truncs size room holder) l.reply (moment_after m l.first) l.rest (fits_look metadata (moment_after m l.calls) l.reply l.looking.after l.so) (λ names. metadata_for IsNoStamp names 0) l.lawful l.runs in
+      let here : IsTopIn (moment_after m l.calls) room w.0 = metas_told (moment_after m l.calls) l.sound_at n room l.reply l.looking.after w.0 l.so w.2 in
+      behind_look n holder room size reply m l.first l.rest events l.split (truncs_so w.0 (moment_after m l.first) l.rest l.lawful l.sound l.only (stood_behind n room w.0 m l.calls l.first l.rest events l.looking l.first_is l.split lawful l.sound_at here) w.1)
+
+-- with a stamp
+by_stamp : (n holder room stamp : ℕ) → ComesBy n holder room (Ok stamp) (Marked stamp)
+by_stamp n holder room stamp = record {
+  ends = λ r m events lawful runs. marked_by r stamp (let_go_so n holder (marked r) events stamp runs);
+  past = λ folder tells next r m events fits told lawful runs. went_past n holder next (told_by folder tells r) events stamp runs;
+}
 
 -- ---- the truncate
 
 pub truncated : (n : ℕ) (m : Moment) (name : Name) (size stamp : ℕ) (events : List Event) → IsLawful m.state events → IsSoundAt m → Runs n (truncate_program name size) events (Ok stamp) → TruncatesFile m n (alone events) name size stamp
 truncated n m name size stamp events lawful sound runs =
     let h = has_held n m name (lists_metadata size) events stamp lawful sound runs in
-    let k = metadata_so n h.holder h.room size stamp h.now h.rest h.lawful h.sound h.only h.runs in
+    let k = metadata_so n h.holder h.room size (Ok stamp) (Marked stamp) (by_stamp n h.holder h.room stamp) h.now h.rest h.lawful h.sound h.only h.runs in
     let there : Moment = moment_after h.now k.more in
     let one : IsLawful there.state (k.event ∷ []) = (k.lawful.0, k.lawful.1, tt) in
     let a = answered there.state n (Mark h.holder size k.top) (unbroken (Mark h.holder size k.top)) (Marked stamp) k.event.after refl (its_step n (Mark h.holder size k.top) (Marked stamp) there.state k.event k.own k.asked k.told k.lawful.1) in

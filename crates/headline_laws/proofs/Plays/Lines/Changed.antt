@@ -32,9 +32,9 @@ use Rattle.actor_core.specs.Endings.{Ending, ending, stopped}
 use Rattle.actor_core.specs.Stopping.{carried}
 use Rattle.actor_core.specs.Work.{finishes}
 use Rattle.headline_laws.specs.Opening.{Stretch}
-use Rattle.headline_laws.specs.Showing.{ShowsFlattening, ShowsRecovery, ShowsRename, ShowsTruncate, ShowsUnheld, ShowsUnnamed}
+use Rattle.headline_laws.specs.Showing.{ShowsFlattening, ShowsRecovery, ShowsRename, ShowsTruncate, ShowsUnheld, ShowsUnmarked, ShowsUnnamed}
 use Rattle.headline_laws.proofs.Plays.Callers.Carrying.{CourseOf, EndsSo, carried_on, ended_behind, then_told}
-use Rattle.headline_laws.proofs.Plays.Holds.Changes.{held_there, none_there, open_there, renames_there, taken_there, truncates_there}
+use Rattle.headline_laws.proofs.Plays.Holds.Changes.{held_there, none_there, open_there, renames_there, spent_there, taken_there, truncates_there}
 use Rattle.headline_laws.proofs.Plays.Holds.Flattened.{flattens}
 use Rattle.headline_laws.proofs.Plays.Refused.Missing.{IsThere, Stands, finds_none, metadata_there, moves_there}
 use Rattle.headline_laws.proofs.Plays.Refused.Plainly.{Anything, IsPlain, metadata_plainly, moves_plainly}
@@ -43,6 +43,7 @@ use Rattle.headline_laws.proofs.Plays.DeadWriters.Recoveries.{recovered}
 use Rattle.headline_laws.proofs.Plays.Holds.Renamed.{renamed}
 use Rattle.headline_laws.proofs.Plays.Callers.Standing.{Both, Next, up_to}
 use Rattle.headline_laws.proofs.Plays.Refused.Taken.{finds_taken}
+use Rattle.headline_laws.proofs.Plays.Refused.Unmarked.{finds_spent}
 use Rattle.headline_laws.proofs.Plays.Holds.Truncated.{truncated}
 use Rattle.headline_laws.proofs.Plays.Refused.Unheld.{finds_held, finds_open, has_tried}
 
@@ -85,11 +86,18 @@ module _ (start : Moment) (n : ℕ) (before greeting : List Event) {L : Type 0} 
   abbrev Truncates : Name → ℕ → List Event → Outcome → Type 0
   Truncates name size mine outcome = ShowsTruncate start n (At mine) name size outcome
 
+  truncate_refused : (name : Name) (size : ℕ) (because : Refusal) (mine : List Event) → Next start (before ++ greeting) mine → Runs n (truncate_program name size) mine (Err (stuck.Refused because)) → ShowsUnmarked start n (At mine) name size (why_of because)
+  truncate_refused name size refusal.StampsSpent mine whole runs = spent_there start n before greeting mine name size (finds_spent n Now name size mine whole.lawful whole.sound runs)
+  truncate_refused name size refusal.Held mine whole runs = unheld (lists_metadata size) (metadata_plainly n size) (λ room. metadata_there n room size) name refusal.Held mine whole runs
+  truncate_refused name size (refusal.Busy host writer) mine whole runs = unheld (lists_metadata size) (metadata_plainly n size) (λ room. metadata_there n room size) name (refusal.Busy host writer) mine whole runs
+  truncate_refused name size refusal.NoRoom mine whole runs = unheld (lists_metadata size) (metadata_plainly n size) (λ room. metadata_there n room size) name refusal.NoRoom mine whole runs
+  truncate_refused name size because mine whole runs = tt
+
   truncate_shows : (name : Name) (size : ℕ) (mine : List Event) (result : Result ℕ Stuck) → Next start (before ++ greeting) mine → Runs n (truncate_program name size) mine result → Truncates name size mine (truncate_outcome result)
   truncate_shows name size mine (Ok stamp) whole runs = truncates_there start n before greeting mine name size stamp (truncated n Now name size stamp mine whole.lawful whole.sound runs)
   truncate_shows name size mine (Err stuck.Fault) whole runs = tt
   truncate_shows name size mine (Err (stuck.Damaged folder file place)) whole runs = absurd (truncate_ends n name size Now.state Now.issued mine (Err (stuck.Damaged folder file place)) whole.lawful whole.sound runs)
-  truncate_shows name size mine (Err (stuck.Refused because)) whole runs = unheld (lists_metadata size) (metadata_plainly n size) (λ room. metadata_there n room size) name because mine whole runs
+  truncate_shows name size mine (Err (stuck.Refused because)) whole runs = truncate_refused name size because mine whole runs
 
   pub trunc_ends : (name : Name) (size : ℕ) (part : List Event) (ws : List (List Event)) (lines : List L) (left : CourseOf L) → Next start before (greeting ++ part) → Plays n (then_told as_line next (carried (truncate_program name size) stop (λ left result. finishes (ending (truncate_outcome result) kept)) (finishes (stopped kept)))) part ws lines left
       → EndsSo n as_line next part ws lines left (λ mine e. (e.kept.reader ≡ kept.reader) × ShowsTruncate start n (record { before = before; events = greeting ++ mine }) name size e.outcome)

@@ -6,6 +6,7 @@ use Rattle.mount_model.specs.declared.call.Call.{Call}
 use Rattle.mount_model.specs.declared.call.Call.TheVariants.{Look, Mark, Move, Release}
 use Rattle.mount_model.specs.declared.call.Look.TheVariants.{List as ListFolder}
 use Rattle.mount_model.specs.declared.reply.Refusal.{Refusal}
+use Rattle.mount_model.specs.declared.reply.Refusal.TheVariants as refusal
 use Rattle.mount_model.specs.declared.reply.Reply.{Reply}
 use Rattle.mount_model.specs.declared.reply.Reply.TheVariants.{Done, Looked, Marked, Refused}
 use Rattle.mount_model.specs.History.{Event}
@@ -46,6 +47,11 @@ abbrev pub EndsFor : {R : Type 0} → (Refusal → Type 0) → Result R Stuck �
 EndsFor fine (Ok result) = Unit {0}
 EndsFor fine (Err why) = IsTroubleFor fine why
 
+-- it is not that no stamp is left
+abbrev pub IsNoStamp : Refusal → Type 0
+IsNoStamp refusal.StampsSpent = ⊥
+IsNoStamp other = Unit {0}
+
 -- what holds on, whatever is called
 abbrev pub Lasts : (Moment → Type 0) → Type 0
 Lasts fact = (m : Moment) (event : Event) (later : List Event) → IsSoundAt m → IsLawful m.state (event ∷ later) → fact m → fact (next_moment m event)
@@ -69,15 +75,15 @@ module _ (fine : Refusal → Type 0) where
   known_for folder name None next each = tt
   known_for folder name (Some a) next each = each a
 
-  metadata_for : (names : List Name) (top : ℕ) → EndsFor fine (metadata_top names top)
+  pub metadata_for : (names : List Name) (top : ℕ) → EndsFor fine (metadata_top names top)
   metadata_for [] top = tt
   metadata_for (name ∷ names) top = known_for metadata name (meta_in name) (λ (m : Metadata). metadata_top names (max top m.stamp)) (λ (m : Metadata). metadata_for names (max top m.stamp))
 
-  truncs_for : (names : List Name) (top : ℕ) → EndsFor fine (truncs_top names top)
+  pub truncs_for : (names : List Name) (top : ℕ) → EndsFor fine (truncs_top names top)
   truncs_for [] top = tt
   truncs_for (name ∷ names) top = known_for truncs name (trunc_in name) (λ (t : Trunc). truncs_top names (max top t.stamp)) (λ (t : Trunc). truncs_for names (max top t.stamp))
 
-  told_for : {A : Type 0} (folder : Name) (tells : List Name → Result A Stuck) (reply : Reply) → ((names : List Name) → EndsFor fine (tells names)) → IsReplyFor fine reply → EndsFor fine (told_by folder tells reply)
+  pub told_for : {A : Type 0} (folder : Name) (tells : List Name → Result A Stuck) (reply : Reply) → ((names : List Name) → EndsFor fine (tells names)) → IsReplyFor fine reply → EndsFor fine (told_by folder tells reply)
   told_for folder tells (Looked (Names names)) each is = each names
   told_for folder tells (Looked answer) each is = tt
   told_for folder tells (Refused why) each is = is

@@ -1,4 +1,4 @@
--- What each statement may ask: a container is made by an opening alone, a write is one of a write, a truncate one of a truncate, and a new name one of a rename.
+-- What each statement may ask: a container is made and entered by an opening alone, a write is one of a write, a truncate one of a truncate, and a new name one of a rename.
 use Rattle.std.proofs.Common.{◌≡◌, ℕ, Bool, true, false, List, length, nat_eq, nat_le, Option, Some, None, Result, Ok, Err, refl, sym}
 use Rattle.std.specs.Prelude.{⊤, ◌==◌, if◌then◌else◌}
 use Rattle.mount_model.specs.declared.stuck.Stuck.{Stuck}
@@ -7,7 +7,7 @@ use Rattle.mount_model.specs.Program.{AsksOnly, Program, ask, done, followed_by}
 use Rattle.mount_model.specs.Process.{asks}
 use Rattle.mount_model.specs.Paths.{Name}
 use Rattle.mount_model.specs.declared.call.Call.{Call}
-use Rattle.mount_model.specs.declared.call.Call.TheVariants.{Greet, MakeContainer, Mark, Move, Write}
+use Rattle.mount_model.specs.declared.call.Call.TheVariants.{Enter, Greet, MakeContainer, Mark, Move, Write}
 use Rattle.mount_model.proofs.Facts.{IsOnNoWriter}
 use Rattle.mount_model.specs.declared.reply.Reply.{Reply}
 use Rattle.mount_model.specs.declared.reply.Reply.TheVariants as reply
@@ -47,6 +47,7 @@ pub record IsItsWrite (kept : Kept) (s : Statement) (id at : ℕ) (block : List 
 -- what the statement of an actor that keeps this may ask
 abbrev pub MayAsk : Kept → Statement → Call → Type 0
 MayAsk kept s (MakeContainer name) = s ≡ say.Open name
+MayAsk kept s (Enter room host most) = (name : List ℕ) × (s ≡ say.Open name)
 MayAsk kept s (Mark holder size top) = (name : Name) × (s ≡ say.Trunc name size)
 MayAsk kept s (Move holder to) = (name : Name) × (s ≡ say.Rename name to)
 MayAsk kept s (Write id at block) = IsItsWrite kept s id at block
@@ -54,6 +55,7 @@ MayAsk kept s call = ⊤
 
 quiet_may : (kept : Kept) (s : Statement) (call : Call) → IsQuiet call → MayAsk kept s call
 quiet_may kept s (MakeContainer name) quiet = absurd quiet
+quiet_may kept s (Enter room host most) quiet = absurd quiet
 quiet_may kept s (Mark holder size top) quiet = absurd quiet
 quiet_may kept s (Move holder to) quiet = absurd quiet
 quiet_may kept s (Write id at block) quiet = absurd quiet
@@ -100,12 +102,12 @@ module _ (kept : Kept) (s : Statement) where
   entered_asks cap (reply.Entered w) = (tt, floored_asks w cap)
   entered_asks cap r = tt
 
-  made_asks : (host cap : ℕ) (r : Reply) → Asks (if_made host cap r)
-  made_asks host cap (reply.Room room) = (tt, entered_asks cap)
-  made_asks host cap r = tt
+  made_asks : (name : Name) (host cap : ℕ) → s ≡ say.Open name → (r : Reply) → Asks (if_made host cap r)
+  made_asks name host cap is (reply.Room room) = ((name, is), entered_asks cap)
+  made_asks name host cap is r = tt
 
   open_asks : (name : Name) (host cap : ℕ) → s ≡ say.Open name → Asks (open_program name host cap)
-  open_asks name host cap is = (is, made_asks host cap)
+  open_asks name host cap is = (is, made_asks name host cap is)
 
   flushed_asks : (handle : WriterHandle) (next : Program Call Reply WriterOut) → Asks next → (r : Reply) → Asks (if_flushed handle next r)
   flushed_asks handle next goes (reply.Flushed landed) = goes

@@ -3,6 +3,7 @@ use Rattle.plfs_program.specs.Commands.{IsBuiltCommand}
 use Rattle.program_ends.specs.Ends.{ends_of, Ends}
 use Rattle.plfs_program.proofs.Courses.CourseLaws.{course_leaves, course_undamaged}
 use Rattle.plfs_program.proofs.Courses.CompleteLaws.{course_done}
+use Rattle.plfs_program.proofs.Courses.PlainCats.{course_cats}
 use Rattle.plfs_program.proofs.Courses.PlainRuns.{course_plain}
 use Rattle.plfs_program.proofs.top.single.Goals as goal
 
@@ -22,9 +23,12 @@ returns-clause-complete g c sound units asked quiet =
     course_done (g.I.Input.given c.args.input.now) (g.I.Input.given c.follow.new.input) e quiet sound IsBuiltCommand c.args.words.now c.follow.result.status units asked c.follow.ensures
 
 pub returns-clause-plain : goal.returns-clause-plain
-returns-clause-plain g c script shows asks quiet fed =
+returns-clause-plain g c quiet fed =
     let e : Ends = ends_of (g.C.Clock.times c.args.clock) (g.O.Sink.taking c.args.out.now) (g.O.Sink.taking c.follow.new.out) (g.S.Store.stored c.args.store) (option_map g.S.Store.stored c.follow.result.store) in
-    course_plain c.scripts_are_told_apart.ensures.one_script c.scripts_are_told_apart.ensures.never_both (g.I.Input.given c.args.input.now) (g.I.Input.given c.follow.new.input) e c.follow.result.status quiet fed IsBuiltCommand (λ asked served. served) c.args.words.now script shows asks c.follow.ensures
+    record {
+      plays = λ script shows asks. course_plain c.scripts_are_told_apart.ensures.one_script c.scripts_are_told_apart.ensures.never_both (g.I.Input.given c.args.input.now) (g.I.Input.given c.follow.new.input) e c.follow.result.status quiet fed IsBuiltCommand (λ asked served. served) c.args.words.now script shows asks c.follow.ensures;
+      cats = λ name is. course_cats (g.I.Input.given c.args.input.now) (g.I.Input.given c.follow.new.input) e c.follow.result.status quiet fed IsBuiltCommand (λ asked served. served) c.args.words.now name is c.follow.ensures;
+    }
 
 pub returns-clause-repeatable : goal.returns-clause-repeatable
 returns-clause-repeatable g c input another later f other told told_too alike quiet quiet_too fed fed_too again =

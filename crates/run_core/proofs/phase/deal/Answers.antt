@@ -1,8 +1,6 @@
-use Rattle.std.proofs.Common.{◌≡◌, ◌<◌, [], ◌∷◌, length, refl, sym, subst, get_or, arith}
+use Rattle.std.proofs.Common.{◌≡◌, ◌<◌, length, refl, sym, subst, get_or, arith}
 use Rattle.std.proofs.lemmas.Option.{slice_get-get_or}
 use Rattle.script_lang.specs.declared.script.Numbered.{Numbered}
-use Rattle.script_lang.specs.declared.script.Statement.{Statement}
-use Rattle.run_core.specs.World.{IsDealt}
 use Rattle.share_workers.proofs.Facts.{taken_item}
 use Rattle.run_core.proofs.Plays.Dealing.{dealt_none, dealt_more}
 use Rattle.run_core.proofs.phase.deal.Goals as goal
@@ -21,6 +19,6 @@ loop-statement-preserved c =
       before = get_or c.loop-statement.players s.actor c.index-players-place.result;
       after = c.give.new.self;
       here = slice_get-get_or c.loop-statement.players s.actor c.index-players-place.result within;
-      does = subst (λ (z : Statement). IsDealt (record { line = s.line; actor = s.actor; statement = z } ∷ []) (get_or c.loop-statement.players s.actor c.index-players-place.result) c.give.new.self) c.in_ok-made.ensures c.in_ok-give.ensures;
+      does = c.in_ok-give.ensures;
       new_is = refl;
     })

@@ -6,14 +6,14 @@ use Rattle.serve_program.proofs.exchange.exchange.Goals as goal
 
 pub loop-i-init : goal.loop-i-init
 loop-i-init g c = record {
-  so_far = λ declared new. none_yet declared c.args.clients.now c.args.mount.now (g.I.Source.given c.args.input.now) (g.O.Sink.taking c.args.out.now) new;
+  so_far = λ declared new. none_yet declared c.args.clients.now c.args.mount.now (g.I.Frames.given c.args.input.now) (g.O.Sink.taking c.args.out.now) new;
   rest = c.requires.rest;
   fine = c.requires.fine;
 }
 
 pub returns-in-Some-clause-exchanged : goal.returns-in-Some-clause-exchanged
 returns-in-Some-clause-exchanged g c = λ declared new.
-    let given = g.I.Source.given in
+    let given = g.I.Frames.given in
     let taking = g.O.Sink.taking in
     let Steps : Option Stop → Type 0 = λ z. StepsSo c.loop-i.clients c.loop-i.mount (given c.loop-i.input) (taking c.loop-i.out) z c.step.new.clients c.step.new.mount (given c.step.new.input) (taking c.step.new.out) in
     stops_so c.in-Some.stop declared c.args.mount.now c.loop-i.mount c.step.new.mount (given c.args.input.now) (given c.loop-i.input) (given c.step.new.input) (taking c.args.out.now) (taking c.loop-i.out) (taking c.step.new.out) c.loop-i._i c.loop-i.clients c.step.new.clients
@@ -21,7 +21,7 @@ returns-in-Some-clause-exchanged g c = λ declared new.
 
 pub loop-i-preserved : goal.loop-i-preserved
 loop-i-preserved g c =
-    let given = g.I.Source.given in
+    let given = g.I.Frames.given in
     let taking = g.O.Sink.taking in
     let Steps : Option Stop → Type 0 = λ z. StepsSo c.loop-i.clients c.loop-i.mount (given c.loop-i.input) (taking c.loop-i.out) z c.step.new.clients c.step.new.mount (given c.step.new.input) (taking c.step.new.out) in
     let none : Steps None = subst Steps c.in_default.is c.step.ensures.steps in
@@ -37,7 +37,7 @@ loop-i-preserved g c =
 
 pub returns-clause-exchanged : goal.returns-clause-exchanged
 returns-clause-exchanged g c = λ declared new.
-    let given = g.I.Source.given in
+    let given = g.I.Frames.given in
     let taking = g.O.Sink.taking in
     let So : ℕ → Type 0 = λ z. SoFar declared c.args.mount.now (given c.args.input.now) (taking c.args.out.now) z c.loop-i.clients c.loop-i.mount (given c.loop-i.input) (taking c.loop-i.out) in
     let all : c.loop-i._i ≡ 2 ^ 64 - 1 = search rules in

@@ -11,11 +11,11 @@ serve_mounted-status-requires-clause-fine g c = mounted_fine 0 (g.C.Clock.times 
 pub returns-in-Ok : goal.returns-in-Ok
 returns-in-Ok g c =
     let e : Ends = ends_of (g.C.Clock.times c.args.clock) (g.O.Sink.taking c.args.out.now) (g.O.Sink.taking c.serve_mounted-status.new.out) (g.S.Store.stored c.args.store) (option_map g.S.Store.stored c.ends.result.store) in
-    runs_so c.args.actors.now (g.I.Source.given c.args.input.now) (g.I.Source.given c.serve_mounted-status.new.input) e c.ends.result.status c.serve_mounted-status.result c.in-Ok.mount c.serve_mounted-status.new.mount (g.S.Store.stored c.close.result)
+    runs_so c.args.actors.now (g.I.Frames.given c.args.input.now) (g.I.Frames.given c.serve_mounted-status.new.input) e c.ends.result.status c.serve_mounted-status.result c.in-Ok.mount c.serve_mounted-status.new.mount (g.S.Store.stored c.close.result)
     (ap (option_map g.S.Store.stored) c.ends.ensures.store) c.in-Ok.ensures.ok c.close.ensures c.ends.ensures.status c.serve_mounted-status.ensures.runs
 
 pub returns-in-Err : goal.returns-in-Err
 returns-in-Err g c =
     let e : Ends = ends_of (g.C.Clock.times c.args.clock) (g.O.Sink.taking c.args.out.now) (g.O.Sink.taking c.args.out.now) (g.S.Store.stored c.args.store) (option_map g.S.Store.stored c.ends-in-Err.result.store) in
-    not_run_so c.args.actors.now (g.I.Source.given c.args.input.now) e c.ends-in-Err.result.status c.unmounted_status.result c.in-Err.trouble (g.S.Store.stored c.in-Err.store)
+    not_run_so c.args.actors.now (g.I.Frames.given c.args.input.now) e c.ends-in-Err.result.status c.unmounted_status.result c.in-Err.trouble (g.S.Store.stored c.in-Err.store)
     (ap (option_map g.S.Store.stored) c.ends-in-Err.ensures.store) c.in-Err.ensures.err refl c.ends-in-Err.ensures.status c.unmounted_status.ensures

@@ -17,7 +17,7 @@ serve_actors-requires-clause-many g c = actors_many_of c.args.host _ (c.as_slice
 pub returns-in-Ok : goal.returns-in-Ok
 returns-in-Ok g c =
     let e : Ends = ends_of (g.C.Clock.times c.args.clock) (g.O.Sink.taking c.args.out.now) (g.O.Sink.taking c.serve_actors.new.out) (g.S.Store.stored c.args.store) (option_map g.S.Store.stored c.serve_actors.result.store) in
-    subst (λ (z : List ActorDecl). Runs z (g.I.Source.given c.args.input.now) (g.I.Source.given c.serve_actors.new.input) e c.serve_actors.result.status) (c.as_slice.ensures ∙ c.in-Ok.ensures) c.serve_actors.ensures
+    subst (λ (z : List ActorDecl). Runs z (g.I.Frames.given c.args.input.now) (g.I.Frames.given c.serve_actors.new.input) e c.serve_actors.result.status) (c.as_slice.ensures ∙ c.in-Ok.ensures) c.serve_actors.ensures
 
 pub returns-in-Err : goal.returns-in-Err
 returns-in-Err g c = unbegun (ap (option_map g.S.Store.stored) c.ends.ensures.store) refl refl c.ends.ensures.status

@@ -15,7 +15,7 @@ returns-in_err-begin_due-clause-broken g c = on_err c.from_residual.result _ (
 
 pub returns-in_err-line-clause-broken : goal.returns-in_err-line-clause-broken
 returns-in_err-line-clause-broken g c = on_err c.from_residual-in_err-line.result _ (
-    let popped : Player = record { number = c.args.self.now.number; actor = c.args.self.now.actor; queue = c.args.self.now.queue; ahead = c.pop_front.new.self } in
+    let popped : Player = record { alloc = c.args.self.now.alloc; number = c.args.self.now.number; actor = c.args.self.now.actor; queue = c.args.self.now.queue; ahead = c.pop_front.new.self } in
     begun_breaks c.args.self.now popped c.args.mount.now c.carry.new.mount
     (same_begins c.args.self.now popped refl refl (sym (c.pop_front.ensures.items ∙ ap (λ o. option_to_list o ++ c.pop_front.new.self.items) c.in_default.is)) refl)
     (begun_breaks popped c.begin_due.new.self c.args.mount.now c.carry.new.mount c.in_ok-begin_due.ensures.begins c.in_err-line.ensures.broken))
