@@ -368,7 +368,7 @@ class Judge:
         for k, one in enumerate(self.namings):
             s = one.by
             made = s.verb == "open" and s.words[0] == one.name and one.number == len(names)
-            made = made and (s.kind in ["open", *BROKE] or (s.kind, s.fields) == ("refused", ("held",)))
+            made = made and (s.kind in ["open", *BROKE] or (s.kind == "refused" and s.fields in [("held",), ("ids-spent",)]))
             moved = s.verb == "rename" and s.words[1] == one.name and one.number < len(names) and s.kind in ["renamed", *BROKE]
             need((made or moved) and one.name not in names, "a naming that can't be")
             need(all(not run.surely_before(m.by, s) and m.by.place != s.place for m in self.namings[k + 1 :]), "namings out of order")

@@ -77,6 +77,8 @@ WRONG = {
     "no such file": ("29 recovered .*", "29 refused no-file", "refused"),
     "no such file to tell of": ("26 stat .*", "26 refused no-file", "refused"),
     "held without cause": ("18 truncated .*", "18 refused held", "refused"),
+    "an opening held without cause": (r"3 open \d+", "3 refused held", "refused"),
+    "a recovery held by nobody": ("29 recovered .*", "29 refused held", "refused"),
     "busy by nobody": ("18 truncated .*", "18 refused busy 0 4294967297", "refused"),
     "busy by one that closed": (r"(?s)(3 open (\d+)\n.*)18 truncated \d+", r"\g<1>18 refused busy 0 \2", "refused"),
     "busy by another": (r"13 refused busy 0 (\d+)", "13 refused busy 1 7", "refused"),

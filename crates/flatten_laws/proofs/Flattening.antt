@@ -62,7 +62,7 @@ use Rattle.reader_laws.specs.Listing.{HasListed}
 use Rattle.reader_laws.specs.Opening.{AreDealt, OpensAlone, Portion, WritersDiffer, droppings_of}
 use Rattle.reader_laws.proofs.Facts.{at_run, listing_run}
 use Rattle.flatten_laws.proofs.Owns.{all_entries, own_cover}
-use Rattle.flatten_laws.proofs.Taken.{EachFirst, IsTaken, taken_alone}
+use Rattle.flatten_laws.proofs.Taken.{EachFirst, IsOfView, IsTaken, viewed_alone, viewed_taken}
 use Rattle.flatten_laws.proofs.Scanned.{scanned_stand}
 use Rattle.flatten_laws.proofs.Kept.{each_stays}
 use Rattle.flatten_laws.proofs.Pairing.{AreOf, ArePaired, all_listed, covered_so, pair}
@@ -195,10 +195,10 @@ one_portion ds share rise = record {
   once = subst WritersDiffer (sym (append-nil ds)) (differ ds rise);
 }
 
--- what a caller gathers of a container are the first entries of writers, which have landed
-pub gathered_taken : (caller room : ℕ) (start : Moment) (events more : List Event) (listing : Listing) (all : AllRead) → IsLawful start.state (events ++ more) → IsSoundAt start → Runs caller (open_at_program room) events (Ok listing) → Runs caller (shares_from 1 listing 0 []) more (Ok all)
-    → IsTaken room (flat_of all.listed all.shares) (moment_after start (events ++ more)).state
-gathered_taken caller room start events more listing all whole sound runs reads =
+-- what a caller gathers of a container is a cut that it saw
+pub gathered_viewed : (caller room : ℕ) (start : Moment) (events more : List Event) (listing : Listing) (all : AllRead) → IsLawful start.state (events ++ more) → IsSoundAt start → Runs caller (open_at_program room) events (Ok listing) → Runs caller (shares_from 1 listing 0 []) more (Ok all)
+    → IsOfView caller room (flat_of all.listed all.shares) start (events ++ more)
+gathered_viewed caller room start events more listing all whole sound runs reads =
     let first = legal_first start events more whole in
     let r : ReadsAll caller listing more all = all_read caller listing all more reads in
     let h : HasListed listing (calls_of caller events) = listing_run caller (open_at_program room) start events listing first sound (inr (room, refl)) runs in
@@ -215,9 +215,15 @@ gathered_taken caller room start events more listing all whole sound runs reads 
       reads = (r.gathering, [], refl, r.reads, refl);
       truncates = r.lists_them;
     } in
-    let t : IsTaken listing.room (flat_of listing (r.share ∷ [])) (moment_after start (events ++ more)).state = taken_alone caller start (events ++ more) listing (portion ∷ []) r.truncs whole sound opens in
+    let seen : IsOfView caller listing.room (flat_of listing (r.share ∷ [])) start (events ++ more) = viewed_alone caller start (events ++ more) listing (portion ∷ []) r.truncs whole sound opens in
     let here : listing.room ≡ room = (at_run caller room start events listing first sound runs).room_is in
-    subst (λ index. IsTaken room index (moment_after start (events ++ more)).state) r.is (subst (λ n. IsTaken n (flat_of listing (r.share ∷ [])) (moment_after start (events ++ more)).state) here t)
+    subst (λ index. IsOfView caller room index start (events ++ more)) r.is (subst (λ n. IsOfView caller n (flat_of listing (r.share ∷ [])) start (events ++ more)) here seen)
+
+-- so it is of the first entries of writers, which have landed
+pub gathered_taken : (caller room : ℕ) (start : Moment) (events more : List Event) (listing : Listing) (all : AllRead) → IsLawful start.state (events ++ more) → IsSoundAt start → Runs caller (open_at_program room) events (Ok listing) → Runs caller (shares_from 1 listing 0 []) more (Ok all)
+    → IsTaken room (flat_of all.listed all.shares) (moment_after start (events ++ more)).state
+gathered_taken caller room start events more listing all whole sound runs reads =
+    viewed_taken caller room (flat_of all.listed all.shares) start (events ++ more) whole sound (gathered_viewed caller room start events more listing all whole sound runs reads)
 
 -- ---- histories
 

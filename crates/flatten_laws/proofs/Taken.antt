@@ -1,4 +1,4 @@
--- What a caller that gathered a container alone has: of each writer the first entries, and the pieces of them all.
+-- What a caller that gathered a container alone has: of each writer the first entries, and the pieces of them all. They are those of a cut that it saw.
 use Rattle.std.proofs.Common.{◌≡◌, ◌≤◌, ℕ, List, [], ◌∷◌, ◌++◌, map, length, take, Some, refl, ap, sym, ◌∙◌, inl, inr, subst, arith, append_assoc, Bool, true, false}
 use Rattle.std.specs.Prelude.{slice_get, ◌==◌}
 use Rattle.std.proofs.lemmas.List.{append-nil}
@@ -148,9 +148,25 @@ in_room_of number [] g rise a = absurd a
 in_room_of number (x ∷ cut) g rise (inl same) = ap (λ (y : Gathered). y.dropping.room) same ∙ rise.0
 in_room_of number (x ∷ cut) g rise (inr a) = in_room_of number cut g rise.2 a
 
-pub taken_alone : (caller : ℕ) (start : Moment) (events : List Event) (listing : Listing) (portions : List Portion) (truncs : List Trunc) → IsLawful start.state events → IsSoundAt start → OpensAlone caller events listing portions truncs
-    → IsTaken listing.room (flat_of listing (shares_of portions)) (moment_after start events).state
-taken_alone caller start events listing portions truncs lawful sound o =
+-- The index is of a view of the room: of a cut of its writers, from the first of these events to the listing of the truncates. Its covers and its pieces are
+-- those of the cut, whatever the truncates take away.
+pub record IsOfView (caller number : ℕ) (index : Flat) (start : Moment) (events : List Event) : Type 0 where
+  pub until : List Event
+  pub listing : Event
+  pub later : List Event
+  pub split : events ≡ until ++ listing ∷ later
+  pub lists : listing.caller ≡ caller
+  pub truncs : List Trunc
+  pub truncates : ListsTruncs number truncs (asked_in listing)
+  pub cut : List Gathered
+  pub view : HasView start (moment_after start until) number cut truncs
+  pub covers : index.covers ≡ counts_in (moment_after start until) cut
+  pub ascend : AreByWriter index.covers
+  pub pieces : ArePieces (entries_in (writes_in (moment_after start until) cut)) [] index.pieces
+
+pub viewed_alone : (caller : ℕ) (start : Moment) (events : List Event) (listing : Listing) (portions : List Portion) (truncs : List Trunc) → IsLawful start.state events → IsSoundAt start → OpensAlone caller events listing portions truncs
+    → IsOfView caller listing.room (flat_of listing (shares_of portions)) start events
+viewed_alone caller start events listing portions truncs lawful sound o =
     let room : ℕ = listing.room in
     let index : Flat = flat_of listing (shares_of portions) in
     let all : IsLawful start.state (o.scanning ++ (o.gathering ++ o.listing_truncs)) = subst (IsLawful start.state) o.split lawful in
@@ -190,18 +206,40 @@ taken_alone caller start events listing portions truncs lawful sound o =
     its_flat has.pieces has.entries is.pieces in
     let covers : index.covers ≡ counts_in end cut =
     covers_of_cut start end listing (calls_of caller o.scanning) portions truncs gathered cut index.covers h view c.1 has (listing_right caller start end listing o.scanning cut h l1 sound c.1.cuts grows) is.covers in
-    let owns : List Own = owns_in end cut in
-    let same : map own_cover owns ≡ index.covers = sym (covers ∙ counts_owns end cut) in
-    let are : AreOwn owns = are_own end s3 cut in
-    let shown : ArePieces (all_entries owns) [] index.pieces = subst (λ es. ArePieces es [] index.pieces) (sym (entries_owns end cut)) pieces in
+    record {
+      until = until;
+      listing = last.listing;
+      later = last.later;
+      split = whole;
+      lists = last.lists;
+      truncs = truncs;
+      truncates = last.truncates;
+      cut = cut;
+      view = view;
+      covers = covers;
+      ascend = is.covers.ascend;
+      pieces = pieces;
+    }
+
+-- So the index is of the first entries of writers, which have landed from then on.
+pub viewed_taken : (caller number : ℕ) (index : Flat) (start : Moment) (events : List Event) → IsLawful start.state events → IsSoundAt start → IsOfView caller number index start events → IsTaken number index (moment_after start events).state
+viewed_taken caller number index start events lawful sound seen =
+    let rest : List Event = seen.listing ∷ seen.later in
+    let both : IsLawful start.state (seen.until ++ rest) = subst (IsLawful start.state) seen.split lawful in
+    let end : Moment = moment_after start seen.until in
+    let sound_end : IsSoundAt end = sound_after start seen.until (legal_first start seen.until rest both) sound in
+    let behind = legal_rest start seen.until rest both in
+    let owns : List Own = owns_in end seen.cut in
+    let same : map own_cover owns ≡ index.covers = sym (seen.covers ∙ counts_owns end seen.cut) in
+    let are : AreOwn owns = are_own end sound_end seen.cut in
+    let shown : ArePieces (all_entries owns) [] index.pieces = subst (λ es. ArePieces es [] index.pieces) (sym (entries_owns end seen.cut)) seen.pieces in
     let final : Moment = moment_after end rest in
-    let r3 = legal_rest start until rest both in
-    let now : moment_after start events ≡ final = ap (moment_after start) whole ∙ moment-append start until rest in
-    subst (λ (m : Moment). IsTaken room index m.state) (sym now) (record {
+    let now : moment_after start events ≡ final = ap (moment_after start) seen.split ∙ moment-append start seen.until rest in
+    subst (λ (m : Moment). IsTaken number index m.state) (sym now) (record {
       owns = owns;
       are = are;
       covers = same;
-      valid = valid_index owns index are same is.covers.ascend shown;
+      valid = valid_index owns index are same seen.ascend shown;
       pieces = shown;
-      firsts = firsts start end final (sound_after end rest r3 s3) room cut (λ g a. (in_room_of room cut g view.rise a, prefix_of start end cut g view.admissible a)) (grows_after end rest r3 s3);
+      firsts = firsts start end final (sound_after end rest behind sound_end) number seen.cut (λ g a. (in_room_of number seen.cut g seen.view.rise a, prefix_of start end seen.cut g seen.view.admissible a)) (grows_after end rest behind sound_end);
     })

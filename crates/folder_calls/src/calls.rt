@@ -1,5 +1,5 @@
 //! The calls of the system, as far as a store makes them.
-ghost use Rattle.std.specs.Prelude.{◌≡◌, ℕ, ◌∷◌, [], length, Option, None, IfOk, IfErr};
+ghost use Rattle.std.specs.Prelude.{◌≡◌, ℕ, ◌∷◌, [], length, Option, None, Ok, IfOk, IfErr, IfSome};
 ghost use Rattle.folder_calls.specs.Calls.{Log, Makes, looked_at, listed_folder, opened_file, created_file, measured_file, read_bytes, wrote_bytes, resized_file, synced_file, made_folder, synced_folder, removed_file, removed_folder, renamed_item, giving, failed_calls};
 ghost use Rattle.folder_calls.specs.Syncs.{IsCountOf, counting};
 ghost use Rattle.folder_calls.specs.Noted.{noted, Tells, TellsLook, TellsList, TellsOpening};
@@ -104,6 +104,15 @@ pub trait Calls {
         ensures syncs { unsynced self.new ≡ unsynced self.old }
         ensures tells { Tells Asked.Read (told self.old) (told self.new) result }
         ensures well { IfOk result (λ _. failed_calls (log self.new) ≡ failed_calls (log self.old)) };
+
+    /// The `len` bytes from `at` on, where the system gave them already, behind which the file has `left` others. It isn't asked for
+    /// them again then.
+    fn read_ahead(&mut self, file: &Self::File, at: u64, len: u64, left: u64) -> Option<Vec<u8>>
+        ensures call { IfSome result (λ bytes. (length bytes.items ≡ len) × Makes (read_bytes file.now at len (Ok bytes.items) ∷ []) (log self.old) (log self.new)) }
+        ensures uncalled { result ≡ None → log self.new ≡ log self.old }
+        ensures syncs { unsynced self.new ≡ unsynced self.old }
+        ensures untold { told self.new ≡ told self.old }
+        ensures well { failed_calls (log self.new) ≡ failed_calls (log self.old) };
 
     /// Writes the bytes from `at` on, in one call of the system where that takes them all.
     fn write_all_at(&mut self, file: &Self::File, bytes: &[u8], at: u64) -> Result<(), Failure>

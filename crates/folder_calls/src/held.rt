@@ -95,6 +95,10 @@ impl<F: Drop> Held<F> {
         if left == 0 {
             return Ok(Answer::Bytes(Bytes::new(alloc)));
         }
+        let behind = self.len.saturating_sub(at).saturating_sub(left);
+        if let Some(bytes) = calls.read_ahead(&self.file, at, left, behind) {
+            return Ok(Answer::Bytes(Bytes::from_vec(bytes)));
+        }
         let mut bytes = Vec::from_elem(alloc, 0u8, left as usize)?;
         calls.read_exact_at(&self.file, bytes.as_mut_slice(), at)?;
         Ok(Answer::Bytes(Bytes::from_vec(bytes)))

@@ -4,6 +4,7 @@
 //! what it answers. What the system does at a call is tested. It stands on the steps of a store, and on a cache.
 #![tactic(auto)]
 
+mod ahead;
 mod cache;
 mod calls;
 mod doubts;
@@ -15,6 +16,7 @@ mod paths;
 mod reason;
 mod system;
 
+pub use ahead::ReadAhead;
 pub use cache::{FileKey, OpenFiles};
 pub use calls::{Calls, Removal};
 pub use doubts::{Doubts, Item};

@@ -5,6 +5,7 @@ ghost use Rattle.folder_calls.specs.Kinds.{IsKindOf};
 ghost use Rattle.folder_calls.specs.Noted.{noted, Tells, TellsFailedList, TellsOpening};
 ghost use Rattle.folder_calls.specs.Syncs.{counting};
 
+use crate::ahead::{LongReads, ReadAhead};
 use crate::calls::{Calls, Removal};
 use crate::failure::Failure;
 use crate::reason::{Asked, Kind, Reason};
@@ -14,6 +15,7 @@ use std::fs::{self, DirEntry, File, Metadata, OpenOptions, ReadDir};
 use std::io::{self, ErrorKind};
 use std::os::unix::fs::{FileExt, MetadataExt};
 use std::rt::Files;
+use std::sync::Arc;
 
 /// What the store needs of the runtime that it keeps: the system's files, and memory for the names in a folder.
 pub trait System: Files<File = File> + AllocGlobal + Clone + Drop {}
@@ -27,6 +29,8 @@ pub struct SystemCalls<R> {
     rt: R,
     last: Option<Reason>,
     unsynced: u64,
+    // Long reads, where a thread makes them ahead.
+    ahead: Option<LongReads>,
 }
 
 /// How often a look or a listing is made that a signal interrupts each time. Another one is made again by the library,
@@ -101,12 +105,29 @@ fn found_at<R: System>(rt: &R, path: &str) -> io::Result<Metadata> {
 impl<R> SystemCalls<R> {
     /// The system by this runtime.
     pub fn new(rt: R) -> Self
-        ensures { result ≡ record { rt = rt; last = None; unsynced = 0 } }
+        ensures { result ≡ record { rt = rt; last = None; unsynced = 0; ahead = None } }
     {
         SystemCalls {
             rt,
             last: None,
             unsynced: 0,
+            ahead: None,
+        }
+    }
+
+    /// From now on a thread may read ahead of long reads that follow each other.
+    pub fn read_ahead_by(&mut self, alloc: Global, shared: Arc<ReadAhead>)
+        ensures same { (self.new.last ≡ self.old.last) × (self.new.unsynced ≡ self.old.unsynced) }
+    {
+        self.ahead = Some(LongReads::new(alloc, shared));
+    }
+
+    // A file is changed: what was read ahead is not what stands there.
+    fn forget_ahead(&mut self)
+        ensures same { (self.new.last ≡ self.old.last) × (self.new.unsynced ≡ self.old.unsynced) }
+    {
+        if let Some(ahead) = &mut self.ahead {
+            ahead.forget();
         }
     }
 
@@ -285,12 +306,21 @@ impl<R: System> Calls for SystemCalls<R> {
         self.ended(Asked::Read, end)
     }
 
+    fn read_ahead(&mut self, file: &File, at: u64, len: u64, left: u64) -> Option<Vec<u8>> {
+        match &mut self.ahead {
+            Some(ahead) => ahead.next(file, at, len, left),
+            None => None,
+        }
+    }
+
     fn write_all_at(&mut self, file: &File, bytes: &[u8], at: u64) -> Result<(), Failure> {
+        self.forget_ahead();
         let end = file.write_all_at(bytes, at);
         self.ended(Asked::Write, end)
     }
 
     fn set_length(&mut self, file: &File, len: u64) -> Result<(), Failure> {
+        self.forget_ahead();
         let end = file.set_len(len);
         self.ended(Asked::Cut, end)
     }
@@ -314,6 +344,7 @@ impl<R: System> Calls for SystemCalls<R> {
     }
 
     fn remove_file(&mut self, path: &str) -> Result<bool, Failure> {
+        self.forget_ahead();
         let end = fs::remove_file(&self.rt, path);
         self.unless(Asked::RemoveFile, ErrorKind::NotFound, end)
     }

@@ -1,8 +1,9 @@
 -- Why a statement was refused, stopped or not made at all.
-use Rattle.std.specs.Prelude.{◌≡◌, ◌≢◌, ⊤, ℕ, ◌+◌, ◌<◌, Bool, true, false, not, is_some, List, [], ◌∷◌, Option, Some, None}
+use Rattle.std.specs.Prelude.{◌≡◌, ◌≢◌, ◌⊎◌, ⊤, ℕ, ◌+◌, ◌<◌, Bool, true, false, not, is_some, List, [], ◌∷◌, Option, Some, None}
 use Rattle.std.specs.List.{Any}
 use Rattle.plfs_types.specs.declared.entries.WriterCount.{WriterCount}
-use Rattle.plfs_types.specs.declared.limits.TheConstants.{MAX_SIZE, MAX_STAMP}
+use Rattle.plfs_types.specs.declared.limits.TheConstants.{MAX_LOG, MAX_SIZE, MAX_STAMP}
+use Rattle.plain_file.specs.File.{stored_bytes}
 use Rattle.container_layout.specs.declared.items.Item.TheVariants.{OpenHost}
 use Rattle.script_lang.specs.declared.line.Outcome.{Outcome}
 use Rattle.script_lang.specs.declared.line.Outcome.TheVariants.{Gone, Opened, Recovered, Refused, Stopped}
@@ -39,6 +40,11 @@ abbrev pub EndsTooFar : Statement → Type 0
 EndsTooFar (Write at content) = MAX_SIZE < at + length_of content
 EndsTooFar (Trunc name size) = MAX_SIZE < size
 EndsTooFar other = ⊥
+
+-- its writer's log would be longer than any may be
+abbrev pub FillsLog : Run → Told → Statement → Type 0
+FillsLog run t (Write at content) = (id : ℕ) × (writer_at run t ≡ Some id) × (MAX_LOG < stored_bytes (account run t.actor id (before run t)).writes + length_of content)
+FillsLog run t other = ⊥
 
 -- the last stamp of all is that of the writer's last write, or one that stood in the container
 pub data AreStampsSpent (run : Run) (story : Story) (t : Told) : Type 0 where
@@ -83,7 +89,7 @@ HasCause run story t NoFile = (name : Name) × (names : List Name) × (name_of t
 HasCause run story t (Busy host id) = Holds t.statement × Named run story t × IsOpenIn run story t host id
 HasCause run story t Held = Named run story t × IsHeldFrom run story t t.statement
 HasCause run story t Exists = Named run story t × ((old : Name) × (to : Name) × (names : List Name) × (t.statement ≡ Rename old to) × MayStand run story t names × IsAmong to names)
-HasCause run story t TooFar = EndsTooFar t.statement
+HasCause run story t TooFar = EndsTooFar t.statement ⊎ FillsLog run t t.statement
 HasCause run story t StampsSpent = AreStampsSpent run story t
 HasCause run story t NotOpen = (name_of t.statement ≡ None) × MayBeReady false run t t.statement
 HasCause run story t AlreadyOpen = (name_of t.statement ≢ None) × MayBeReady false run t t.statement

@@ -72,7 +72,6 @@ pub record TellsOfFile (run : Run) (story : Story) (t : Told) (size stored : ℕ
 
 -- A flattened index covers a cut that a reader might see, has its pieces before any truncate, and stands in the tree after.
 pub record Flattens (run : Run) (story : Story) (t : Told) (id many : ℕ) (cut : List WriterCount) : Type 0 where
-  pub finds : Named run story t
   pub seen : List Seen
   pub may_see : IsCut run story t seen
   pub cut_is : cut ≡ map counted seen

@@ -62,7 +62,7 @@ pub record Headline (run : Run) (story : Story) : Type 0 where
   -- `stat ..`: size and bytes of such a file
   pub stat : (t : Told) (size bytes : ℕ) (by : List ShareBytes) (truncs : List Trunc) → Says run t (line.Stat size bytes by truncs) → TellsOfFile run story t size bytes by truncs
   -- `flattened ID ..`: an index of such a cut. No other line depends on it
-  pub flattened : (t : Told) (id many : ℕ) (cut : List WriterCount) → Says run t (line.Flattened id many cut) → Flattens run story t id many cut
+  pub flattened : (t : Told) (id many : ℕ) (cut : List WriterCount) → Says run t (line.Flattened id many cut) → Named run story t × Flattens run story t id many cut
   -- `ls ..`: the names that stood at one time
   pub listed : (t : Told) (names : List (List ℕ)) → Says run t (line.Listed names) → ListsNames run story t names
   -- `truncated STAMP`: it cuts all that had landed, and nothing that is written after it

@@ -5,7 +5,7 @@ use Rattle.store_api.specs.declared.tree.Tree.{Tree}
 use Rattle.store_api.specs.Names.{marks_name}
 use Rattle.script_lang.specs.declared.line.Outcome.{Outcome}
 use Rattle.script_lang.specs.declared.line.Outcome.TheVariants.{Fault, Opened, Refused, Renamed, Stopped}
-use Rattle.script_lang.specs.declared.line.Why.TheVariants.{Held}
+use Rattle.script_lang.specs.declared.line.Why.TheVariants.{Held, IdsSpent}
 use Rattle.script_lang.specs.declared.script.Statement.{Statement}
 use Rattle.script_lang.specs.declared.script.Statement.TheVariants.{Flatten, Open, Recover, Refresh, Rename, Ropen, Stat, Trunc}
 use Rattle.headline.specs.Run.{IsLine, Run, Told, surely_before}
@@ -49,7 +49,7 @@ pub data BrokeOff (outcome : Outcome) : Type 0 where
 -- A container is made by the first `open` of its name, whether a writer was opened or not, and no other has the name. A rename gives the container that it
 -- found another name, which no container has. (By then it may have lost the one by which it was found to another rename.)
 pub data MayName (names : List Name) (n : Naming) : Type 0 where
-  made : n.by.statement ≡ Open n.name → ((id : ℕ) × (n.by.outcome ≡ Opened id)) ⊎ (n.by.outcome ≡ Refused Held) ⊎ BrokeOff n.by.outcome → n.number ≡ length names → IsFree n.name names → MayName names n
+  made : n.by.statement ≡ Open n.name → ((id : ℕ) × (n.by.outcome ≡ Opened id)) ⊎ (n.by.outcome ≡ Refused Held) ⊎ (n.by.outcome ≡ Refused IdsSpent) ⊎ BrokeOff n.by.outcome → n.number ≡ length names → IsFree n.name names → MayName names n
   moved : (old : Name) → n.by.statement ≡ Rename old n.name → (n.by.outcome ≡ Renamed) ⊎ BrokeOff n.by.outcome → n.number < length names → IsFree n.name names → MayName names n
 
 -- one after the other, and none before one that ended before it began
@@ -89,13 +89,16 @@ pub record Named (run : Run) (story : Story) (t : Told) : Type 0 where
   pub stand : MayStand run story t names
   pub found : slice_get names (story.of t) ≡ Some name
 
--- The namings lead from the names before to those after, and each rename that was told is one of them.
-pub record AreNamed (run : Run) (story : Story) : Type 0 where
+-- The namings lead from the names before to those after. Each is of the container that its line speaks of, and each rename that was told is one of them.
+pub record NamingsLead (run : Run) (story : Story) : Type 0 where
   pub first : List Name
   pub are_first : AreFirstNames run first
   pub may_be : MayBeNamed run first story.namings
   pub left : names_in run.after ≡ named first story.namings
   pub found : All (λ (n : Naming). story.of n.by ≡ n.number) story.namings
-  -- a line of which `of` is no container found none, and one of which it is one speaks of it by its name, but for a refresh
-  pub speak : (t : Told) → IsLine run t → story.of t < length run.after.rooms → Named run story t ⊎ (t.statement ≡ Refresh)
   pub renamed : (t : Told) → IsLine run t → t.outcome ≡ Renamed → Any (λ (n : Naming). n.by ≡ t) story.namings
+
+pub record AreNamed (run : Run) (story : Story) : Type 0 where
+  pub lead : NamingsLead run story
+  -- a line of which `of` is no container speaks of none, and one of which it is one speaks of it by its name, but for a refresh
+  pub speak : (t : Told) → IsLine run t → story.of t < length run.after.rooms → Named run story t ⊎ (t.statement ≡ Refresh)

@@ -1,8 +1,10 @@
 mod Contents
 pub mod Facts
+mod Held
 mod Landed
 mod Losses
 mod Makers
+mod Names
 mod OrderlyLines
 pub mod Plays
 mod Reasons
@@ -10,3 +12,4 @@ mod Stamps
 mod Statements
 mod Story
 mod Trees
+mod Whole

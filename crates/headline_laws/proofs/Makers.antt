@@ -1,5 +1,7 @@
 -- Which line made what the tree after has.
+pub mod AliveThen
 pub mod Back
+pub mod Ended
 pub mod Entering
 pub mod EntryEnds
 pub mod Holding
@@ -10,6 +12,7 @@ pub mod KnownEntries
 pub mod KnownIndices
 pub mod NewEntries
 pub mod NewIndices
+pub mod NewNames
 pub mod NewTruncs
 pub mod OneEntry
 pub mod Opens

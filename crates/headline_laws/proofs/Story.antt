@@ -2,9 +2,11 @@
 pub mod Apart
 pub mod Attributed
 pub mod Entered
+pub mod FirstNames
 pub mod Lines
 pub mod Listing
 pub mod Named
+pub mod Namings
 pub mod OneOpener
 pub mod Opened
 pub mod Ordered
@@ -12,3 +14,4 @@ pub mod Parts
 pub mod Quiet
 pub mod Refused
 pub mod Shown
+pub mod Spans

@@ -1,5 +1,5 @@
 -- How a statement opens a file for a reader.
-use Rattle.std.specs.Prelude.{◌≡◌, ◌≤◌, ℕ, List, ◌∷◌, ◌++◌, Some}
+use Rattle.std.specs.Prelude.{◌≡◌, ◌≤◌, ℕ, List, ◌∷◌, ◌++◌}
 use Rattle.std.specs.List.{All, Any}
 use Rattle.plfs_types.specs.declared.entries.Trunc.{Trunc}
 use Rattle.mount_model.specs.Paths.{Name}

@@ -35,11 +35,12 @@ pub fn what_stood_stands()
 /// truncates that were told before. It shows one plain file: of the first writes of each writer, as the lines tell them, and of its truncates. The tree after
 /// has the first writes of each writer, as many as the lines allow, and of one that was closed metadata of all of them. Each truncate, each index and each entry of an open writer
 /// that it has is of the tree before or of a line. Each stamp is one of the clock's times, or the next above what came before. What is told of a file is that of one such plain file. Where no statement renames, all names are listed. What is
-/// refused as `already-open` opens what its actor has, and as `not-open` it uses what its actor hasn't. What is refused as `busy` is open by the writer that it tells. Where one is refused for want of a stamp, the last of all is its writer's, or stands in the container. A writer that a recovery took out is open no more, and is none that its actor has at the end. No loss of
-/// power after the run takes a write that a sync or a close told. So it is where the lines are right, from a mount over a sound tree on, and so it is of a play.
+/// refused as `already-open` opens what its actor has, and as `not-open` it uses what its actor hasn't. What is refused as `busy` is open by the writer that it tells, and what is refused as `held` may have been held. Where one is refused for want of a stamp, the last of all is its writer's, or stands in the container. A writer that a recovery took out is open no more, and is none that its actor has at the end. No loss of
+/// power after the run takes a write that a sync or a close told. So it is where the lines are right, from a mount over a sound tree on, and so it is of a play; the counts of faults are those at first and at last.
+/// Where no line tells that all numbers of the mount were spent, the lines meet the whole page.
 pub fn lines_have_a_story()
     ensures right { (run : Run) (opened : Stored) (start end : State) → FitsScript run.script → IsMounted 0 run.times opened start → opened.tree ≡ Some run.before → IsSoundTree run.before → IsRight run.script start run.lines end
-        → end.store.tree ≡ Some run.after → run.in_order ≡ false → (story : Story) × Fits run story }
+        → end.store.tree ≡ Some run.after → run.in_order ≡ false → run.faults ≤ start.store.faults → end.store.faults ≡ run.faults_after → (story : Story) × Fits run story }
     ensures played { (run : Run) (opened : Stored) (start end : State) → FitsScript run.script → IsMounted 0 run.times opened start → opened.tree ≡ Some run.before → IsSoundTree run.before → IsPlay run.script start run.lines end
-        → end.store.tree ≡ Some run.after → run.in_order ≡ false → (story : Story) × Fits run story }
+        → end.store.tree ≡ Some run.after → run.in_order ≡ false → run.faults ≤ start.store.faults → end.store.faults ≡ run.faults_after → (story : Story) × Fits run story }
 {}

@@ -24,6 +24,7 @@ pub use migrating::migrate;
 pub use naming::names;
 pub use pack_core_driving::drive_freely;
 pub use packing::{Packed, pack};
+pub use putting::Put;
 pub use scanning::scan;
 pub use settling::settle;
 pub use unpacking::{open_reader, unpack};

@@ -25,7 +25,7 @@ use writer_flow::{WriterHandle, WriterOut};
 
 /// What a put came to.
 #[derive(Clone, Copy)]
-pub(crate) enum Put {
+pub enum Put {
     /// It was made, and the next file goes to this place.
     Made { handle: WriterHandle, next: u64 },
     /// The file would pass the end of the region.

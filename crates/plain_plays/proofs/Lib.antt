@@ -5,6 +5,7 @@ pub mod Facts
 mod Foreign
 mod NotAlive
 mod OverStores
+mod Packings
 mod Phases
 pub mod PlainSteps
 mod Plays

@@ -50,6 +50,10 @@ pub dead_next : (m : Moment) (events : List Event) (place : ℕ) (declared : Act
 dead_next m events place declared actor p statement outcome new lawful out t =
     weaker_rooms (IsOut m.state) (IsOut (moment_after m events).state) (λ id x. out_later m events id lawful x) new.rooms (out_next (IsOut m.state) place declared actor p statement outcome new out t)
 
+-- So do calls that leave the machine as it was.
+pub dead_later : (m : Moment) (events : List Event) (p : Plain) → IsLawful m.state events → DeadStayOut m.state p → DeadStayOut (moment_after m events).state p
+dead_later m events p lawful out = weaker_rooms (IsOut m.state) (IsOut (moment_after m events).state) (λ id x. out_later m events id lawful x) p.rooms out
+
 -- ---- as a play begins, and at a recovery
 
 drawn_too : (m : Moment) (number : ℕ) (ws : List PlainWriter) → AllByRecursion (MirrorsWriter m number) ws → AllByRecursion (OutIfDead (IsNotLive m.state)) ws → AllByRecursion (OutIfDead (IsOut m.state)) ws

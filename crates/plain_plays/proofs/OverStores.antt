@@ -24,10 +24,10 @@ use Rattle.run_core.specs.Play.{IsPlay}
 use Rattle.plain_machine.specs.Machine.{Plain}
 use Rattle.plain_machine.specs.Running.{nobody}
 use Rattle.plain_plays.specs.Beginning.{bare_tree, first_machine}
-use Rattle.plain_plays.specs.Saying.{MetNoFault, SaysPlainly}
+use Rattle.plain_plays.specs.Saying.{BeginsPlainly, IsMirrored, MetNoFault, SaysPlainly}
 use Rattle.plain_plays.specs.OverStores.{BeginsOver, TellsPlainly, as_mounted, bare}
 use Rattle.plain_plays.proofs.Droppings.{droppings_so}
-use Rattle.plain_plays.proofs.Plays.{begun_so, faults_rise, plays_so}
+use Rattle.plain_plays.proofs.Plays.{bare_mirrored, begins_on, begun_so, faults_rise, plays_so}
 
 -- ---- the first mark
 
@@ -76,17 +76,25 @@ first_of_none mount next = elim next.found.reached as (λ _. mount ≡ 1) [
 ]
 
 -- a mount of a store without rooms has the mark 1
-first_mark : (times : Option (List ℕ)) (opened : Stored) (start : State) → opened.tree ≡ Some bare_tree → IsMounted 0 times opened start → start.mount ≡ 1
+pub first_mark : (times : Option (List ℕ)) (opened : Stored) (start : State) → opened.tree ≡ Some bare_tree → IsMounted 0 times opened start → start.mount ≡ 1
 first_mark times opened start is mounted =
     let d = mounted.draws in
     let (roomed, first) = marks_made opened d.roomed start.marks d.tells.told is d.tells.made d.tells.tells in
     let none = none_listed d.roomed d.listed start.marks d.names roomed first d.lists in
     first_of_none start.mount (subst (λ names. IsNextMark names start.mount) (sym none) d.next)
 
+-- the machine that begins over the store begins with a mount of it
+pub begins_over : (script : Script) (times : Option (List ℕ)) (opened : Stored) (start : State) (p : Plain) → IsMounted 0 times opened start → BeginsOver script times opened p → BeginsPlainly script start p
+begins_over script times opened start p mounted (bare is first) =
+    let q : Plain = first_machine (map nobody script.actors) times start.mount in
+    let machine : q ≡ p = ap (λ n. first_machine (map nobody script.actors) times n) (first_mark times opened start is mounted) ∙ sym first in
+    subst (BeginsPlainly script start) machine (begins_on script 0 times opened start q mounted (bare_mirrored (map nobody script.actors) times opened start is mounted) refl)
+begins_over script times opened start p mounted (as_mounted m) = m.begins start mounted
+
 -- ---- no call met a fault
 
 -- the count of faults is as it was all the time
-met_none : (opened before after : ℕ) → opened ≤ before → before ≤ after → (HasRisen opened after → ⊥) → (after ≡ before) × (before < 2 ^ 64 - 1)
+pub met_none : (opened before after : ℕ) → opened ≤ before → before ≤ after → (HasRisen opened after → ⊥) → (after ≡ before) × (before < 2 ^ 64 - 1)
 met_none opened before after first then none = elim (cases_lt opened after) as (λ _. (after ≡ before) × (before < 2 ^ 64 - 1)) [
   | inl risen ↦ absurd (none (inl risen))
   | inr stays ↦ elim (cases_lt after (2 ^ 64 - 1)) as (λ _. (after ≡ before) × (before < 2 ^ 64 - 1)) [
@@ -115,6 +123,10 @@ plays_over script times opened start end lines fits mounted play well plain p be
         let machine : first_machine (map nobody script.actors) times start.mount ≡ p = ap (λ n. first_machine (map nobody script.actors) times n) (first_mark times opened start is mounted) ∙ sym first in
         subst (λ q. SaysPlainly script q lines end) machine (begun_so script times opened start end lines fits plain is mounted play well)
     said (as_mounted m) = plays_so script start end lines p fits plain (m.begins start mounted) play well
+
+-- a machine that begins over the store has what each mount of it has
+pub mirrored_over : (script : Script) (times : Option (List ℕ)) (opened : Stored) (start : State) (p : Plain) → IsMounted 0 times opened start → BeginsOver script times opened p → IsMirrored start p
+mirrored_over script times opened start p mounted begins = (begins_over script times opened start p mounted begins).mirrored
 
 -- ---- mountings that break off
 

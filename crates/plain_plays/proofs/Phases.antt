@@ -74,7 +74,7 @@ ends_phase m p later actors ones none stood place declared at =
 
 -- ---- lines of two parts
 
-takes_both : (actors : List ActorDecl) (first rest : List Numbered) (lines others : List Line) (p mid last : Plain) → TakesAll actors p first lines mid → TakesAll actors mid rest others last → TakesAll actors p (first ++ rest) (lines ++ others) last
+pub takes_both : (actors : List ActorDecl) (first rest : List Numbered) (lines others : List Line) (p mid last : Plain) → TakesAll actors p first lines mid → TakesAll actors mid rest others last → TakesAll actors p (first ++ rest) (lines ++ others) last
 takes_both actors [] rest [] others p mid last a b = subst (λ (q : Plain). TakesAll actors q rest others last) a b
 takes_both actors [] rest (line ∷ lines) others p mid last a b = absurd a
 takes_both actors (s ∷ first) rest [] others p mid last a b = absurd a

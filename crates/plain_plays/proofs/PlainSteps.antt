@@ -16,3 +16,4 @@ pub mod ByName
 pub mod Looks
 pub mod Flats
 pub mod Burying
+pub mod ByItself

@@ -50,7 +50,7 @@ faults_rise old (e ∷ events) lawful =
     let never = (step_causes old e.after e.caller e.ask e.reply lawful.1).never_falls in
     omega (arith, rest, never)
 
-all_well : (old : State) (events : List Event) → IsLawful old events → HadMemory events → (state_after old events).store.faults ≤ old.store.faults → old.store.faults < 2 ^ 64 - 1 → AllWell events
+pub all_well : (old : State) (events : List Event) → IsLawful old events → HadMemory events → (state_after old events).store.faults ≤ old.store.faults → old.store.faults < 2 ^ 64 - 1 → AllWell events
 all_well old [] lawful memory none counted = tt
 all_well old (e ∷ events) lawful memory none counted =
     let rest = faults_rise e.after events lawful.2 in
@@ -67,7 +67,7 @@ all_well old (e ∷ events) lawful memory none counted =
     )
 
 -- the state of a moment is that of the history
-state_of : (m : Moment) (events : List Event) → (moment_after m events).state ≡ state_after m.state events
+pub state_of : (m : Moment) (events : List Event) → (moment_after m events).state ≡ state_after m.state events
 state_of m [] = refl
 state_of m (e ∷ events) = state_of (next_moment m e) events
 
@@ -155,7 +155,7 @@ all_out state (w ∷ ws) none = (λ row found. absurd (no_row w.id row (sym (ap 
     no_row : (id : ℕ) (row : Row) → row_of id [] ≡ Some row → ⊥
     no_row id row e = cc
 
-begins_on : (script : Script) (serial : ℕ) (times : Option (List ℕ)) (opened : Stored) (start : State) (p : Plain) → IsMounted serial times opened start → IsMirrored start p → p.actors ≡ map nobody script.actors → BeginsPlainly script start p
+pub begins_on : (script : Script) (serial : ℕ) (times : Option (List ℕ)) (opened : Stored) (start : State) (p : Plain) → IsMounted serial times opened start → IsMirrored start p → p.actors ≡ map nobody script.actors → BeginsPlainly script start p
 begins_on script serial times opened start p mounted mirrored actors = record { mirrored = mirrored; actors = actors; dead_out = λ n room there. all_out start (dead room) mounted.no_writers }
 
 -- ---- a mount over a store without rooms
@@ -172,13 +172,16 @@ bare_sound = record {
   flats = λ number room there. absurd (none_at number room there);
 }
 
+pub bare_mirrored : (actors : List PlainActor) (times : Option (List ℕ)) (opened : Stored) (start : State) → opened.tree ≡ Some bare_tree → IsMounted 0 times opened start → IsMirrored start (first_machine actors times start.mount)
+bare_mirrored actors times opened start bare mounted =
+    let m : Moment = record { state = start; issued = bare_sound.issued } in
+    record { issued = bare_sound.issued; mirrors = begins_so times opened m actors bare mounted (mounted_sound 0 times opened start bare_tree mounted bare bare_sound) }
+
 pub begun_so : (script : Script) (times : Option (List ℕ)) (opened : Stored) (start end : State) (lines : List Line) → FitsScript script → IsPlainScript script → opened.tree ≡ Some bare_tree → IsMounted 0 times opened start → IsPlay script start lines end → MetNoFault start end
     → SaysPlainly script (first_machine (map nobody script.actors) times start.mount) lines end
 begun_so script times opened start end lines fits plain bare mounted play well =
-    let m : Moment = record { state = start; issued = bare_sound.issued } in
-    let mirrors = begins_so times opened m (map nobody script.actors) bare mounted (mounted_sound 0 times opened start bare_tree mounted bare bare_sound) in
     let p : Plain = first_machine (map nobody script.actors) times start.mount in
-    plays_so script start end lines p fits plain (begins_on script 0 times opened start p mounted (record { issued = bare_sound.issued; mirrors = mirrors }) refl) play well
+    plays_so script start end lines p fits plain (begins_on script 0 times opened start p mounted (bare_mirrored (map nobody script.actors) times opened start bare mounted) refl) play well
 
 -- ---- a mount over a sound tree
 

@@ -125,7 +125,7 @@ greeted_so m me p declared kept s o number next calls line left statement lawful
     statement_so m me p declared (disarmed kept) here o number next calls line left lawful well statement plain fits out bare
 
 -- a greeting changes nothing
-same_moment : (m : Moment) (e : Event) (calls : List Event) → IsLawful m.state (e ∷ calls) → e.ask ≡ unbroken Greet → next_moment m e ≡ m
+pub same_moment : (m : Moment) (e : Event) (calls : List Event) → IsLawful m.state (e ∷ calls) → e.ask ≡ unbroken Greet → next_moment m e ≡ m
 same_moment m e calls lawful asked =
     let answers = subst (λ (a : Ask). MatchOption a.stop (Answers m.state e.caller a.call e.reply e.after) (λ k. Stops e.caller k a.call m.state e.reply e.after)) asked lawful.1.does in
     λ i. record { state = answers.1 i; issued = issued_after m.issued m.state (asked i).call e.reply }

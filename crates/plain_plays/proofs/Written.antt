@@ -45,7 +45,7 @@ pub well_rest : (first rest : List Event) → AllWell (first ++ rest) → AllWel
 well_rest [] rest well = well
 well_rest (e ∷ first) rest well = well_rest first rest well.1
 
-goes_well : (me : ℕ) (events : List Event) → AllWell events → GoesWell me events
+pub goes_well : (me : ℕ) (events : List Event) → AllWell events → GoesWell me events
 goes_well me [] well = tt
 goes_well me (e ∷ events) well = (λ own. well.0, goes_well me events well.1)
 

@@ -1,12 +1,14 @@
 pub mod Apart
 pub mod Asking
 pub mod Beginning
+pub mod ByItself
 pub mod Calls
 pub mod Droppings
 pub mod Foreign
 pub mod Mirrors
 pub mod Opens
 pub mod OverStores
+pub mod Packings
 pub mod Plainly
 pub mod Readers
 pub mod Saying

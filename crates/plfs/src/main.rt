@@ -19,7 +19,7 @@ use crate::entries::list_files;
 use crate::exporting::obey_export;
 use crate::reading::{copies_the_input, read_input};
 use crate::serving::obey_serve;
-use crate::task::{Task, run};
+use crate::task::{Task, run, writes_whole_files};
 use crate::telling::{
     starved, tell_denied, tell_ran, tell_unlisted, tell_unopened, tell_unread, unread, usage,
 };
@@ -38,7 +38,7 @@ use std::thread::Threads;
 use store_folder::FolderStore;
 use system_edge::{
     Called, INPUT, MOST_FOLDERS, Program, Standard, are_named, folders_of, lock_folders, look_at,
-    open_files, program_called, read_called, split_from, stores_of,
+    open_files, program_called, read_ahead, read_called, split_from, stores_of,
 };
 
 /// Reads the words, the first of which is the folder, and ends with the status of their command. A standard stream
@@ -281,6 +281,15 @@ fn serve<H: Threads + Wait + Sync + Copy + Send + 'static>(
     code
 }
 
+// The handle, where the command writes whole files out: then a thread reads ahead.
+fn ahead<H: Copy>(handle: &H, task: &Task<'_>) -> Option<H> {
+    if writes_whole_files(task) {
+        Some(*handle)
+    } else {
+        None
+    }
+}
+
 // Runs the command over one folder.
 #[inline(never)]
 fn serve_one<H: Threads + Wait + Sync + Copy + Send + 'static>(
@@ -291,9 +300,10 @@ fn serve_one<H: Threads + Wait + Sync + Copy + Send + 'static>(
     task: &Task<'_>,
     standard: &Standard,
 ) -> ExitCode {
-    let Ok(store) = FolderStore::open(rt, rt.alloc(), root) else {
+    let Ok(mut store) = FolderStore::open(rt, rt.alloc(), root) else {
         return starved(&rt);
     };
+    read_ahead(rt, &mut store, ahead(handle, task));
     let ran = run(handle, &rt, task, Backing::One(store));
     tell_ran(&rt, root, folders, task, ran, standard)
 }
@@ -311,7 +321,7 @@ fn serve_several<H: Threads + Wait + Sync + Copy + Send + 'static>(
     requires some { 1 ≤ length folders.now }
     requires few { length folders.now ≤ MOST_FOLDERS }
 {
-    let Ok(stores) = stores_of(rt, folders) else {
+    let Ok(stores) = stores_of(rt, folders, ahead(handle, task)) else {
         return starved(&rt);
     };
     match Spread::open(rt.alloc(), stores) {

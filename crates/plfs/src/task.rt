@@ -132,6 +132,16 @@ fn has_lines(task: &Task<'_>) -> bool {
     }
 }
 
+/// Whether the command writes out whole files of a container.
+pub fn writes_whole_files(task: &Task<'_>) -> bool {
+    match task {
+        Task::Plfs { command, .. } => matches!(command, Command::Cat { .. }),
+        Task::Copy { command, .. } => !copies_the_input(command),
+        Task::Export { .. } => true,
+        Task::Import { .. } | Task::Check { .. } | Task::Drain { .. } | Task::Serve { .. } => false,
+    }
+}
+
 // How many bytes standard input has, or the files in its place.
 fn copied_length(rt: &HostRuntime, files: &[Word], opened: &RefCell<Vec<File>>) -> u64 {
     if files.is_empty() {

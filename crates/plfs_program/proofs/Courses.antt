@@ -5,11 +5,16 @@ pub mod CompleteLaws
 pub mod CourseLaws
 pub mod CourseLemmas
 pub mod Lines
+pub mod LoneRuns
 pub mod MigrateCourses
 pub mod PackCourses
 pub mod Plain
 pub mod PlainCats
 pub mod PlainMounts
+pub mod PlainMigrations
+pub mod PlainPacks
+pub mod PlainReads
 pub mod PlainRuns
+pub mod PlainSmallRuns
 pub mod SmallCourses
 pub mod UnitCourses

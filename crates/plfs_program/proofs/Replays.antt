@@ -1,4 +1,4 @@
 -- A play is a function.
-pub mod Facts
+pub mod FaultedActs
 pub mod Replaying
 pub mod Lone

@@ -1,7 +1,10 @@
 -- A run is a function.
 pub mod Twice
 pub mod Courses
+pub mod Mountings
 pub mod OneWay
+pub mod Plays
+pub mod Quiet
 pub mod Packs
 pub mod Scans
 pub mod Came

@@ -5,12 +5,14 @@ use Rattle.store_api.specs.declared.tree.Tree.{Tree}
 use Rattle.store_api.specs.Acts.{Stored}
 use Rattle.command_line.specs.Commands.{IsCommand}
 use Rattle.command_line.specs.declared.commands.Command.{Command}
-use Rattle.command_line.specs.declared.commands.Command.TheVariants.{Cat, Play}
+use Rattle.command_line.specs.declared.commands.Command.TheVariants.{Cat, Migrate, Names, Pack, Play, Unpack}
 use Rattle.script_lang.specs.Grammar.{IsScript}
 use Rattle.script_lang.specs.declared.line.Line.{Line}
 use Rattle.script_lang.specs.declared.line.Outcome.TheVariants.{Refused}
 use Rattle.script_lang.specs.declared.line.Why.TheVariants.{MountsSpent}
 use Rattle.script_lang.specs.declared.script.Script.{Script}
+use Rattle.pack_input.specs.Input.{IsInput}
+use Rattle.pack_input.specs.declared.files.NamedFile.{NamedFile}
 use Rattle.plain_plays.specs.OverStores.{TellsOfOne, TellsPlainly}
 use Rattle.program_ends.specs.Ends.{Ends}
 use Rattle.program_ends.specs.Mounting.{AreSpent, listed_marks}
@@ -20,6 +22,9 @@ use Rattle.program_ends.specs.Reported.{line_zero}
 use Rattle.program_ends.specs.SoundTrees.{TellsSoundTree}
 use Rattle.plfs_program.specs.Commands.{IsPlanned}
 use Rattle.plfs_program.specs.PlainCat.{IsWrittenPlainly}
+use Rattle.plfs_program.specs.PlainMigrate.{IsMigratedPlainly}
+use Rattle.plfs_program.specs.PlainPack.{IsPackedPlainly}
+use Rattle.plfs_program.specs.PlainSmall.{AreNamedPlainly, IsUnpackedPlainly}
 use Rattle.plfs_program.specs.Playing.{IsPlayedAs}
 use Rattle.plfs_program.specs.Showing.{Shows, all_lines, shows_of}
 use Rattle.plfs_program.specs.Ways.{by_turns}
@@ -46,7 +51,12 @@ pub record PrintsPlainly (script : Script) (shows : Shows) (e : Ends) (status : 
   pub printed : IsPrinted (shows.text lines) e.taking e.taking_after
   pub decide : status ≡ status_of (shows.decide lines)
 
--- What is shown of a script that the words ask for is what a plain machine says of it, and a file that they ask for is written out as a plain machine has it.
+-- What is shown of a script that the words ask for is what a plain machine says of it. A file that they ask for is written out as a plain machine has it, and so are
+-- small files of it read. Those of the input are packed as an actor of the machine writes them. A migration leaves the machine its files.
 pub record GoesPlainly (words : List (List ℕ)) (given : Given) (e : Ends) (status : ℕ) : Type 0 where
   pub plays : (script : Script) (shows : Shows) → AskToPlay words given script shows → PrintsPlainly script shows e status
   pub cats : (name : List ℕ) → IsCommand words (Cat name) → IsWrittenPlainly name e status
+  pub unpacks : (name file : List ℕ) → IsCommand words (Unpack name file) → IsUnpackedPlainly name file e status
+  pub names : (name : List ℕ) → IsCommand words (Names name) → AreNamedPlainly name e status
+  pub migrates : (name : List ℕ) → IsCommand words (Migrate name) → IsMigratedPlainly name e status
+  pub packs : (name : List ℕ) (region : ℕ) (bytes : List ℕ) (files : List NamedFile) → IsCommand words (Pack name region) → given.left ≡ Some bytes → IsInput bytes files → IsPackedPlainly name region files e status

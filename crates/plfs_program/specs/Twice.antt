@@ -1,5 +1,7 @@
 -- Two runs that begin alike, and print the same.
 use Rattle.std.specs.Prelude.{◌≡◌, ℕ, ◌<◌, ◌-◌, ◌^◌, List, Some}
+use Rattle.plfs_types.specs.Counts.{HasRisen}
+use Rattle.edge_io.specs.Source.{Given}
 use Rattle.step_laws.specs.Alike.{IsTold}
 use Rattle.program_ends.specs.Ends.{Ends}
 use Rattle.program_ends.specs.Output.{IsPrinted}
@@ -13,6 +15,12 @@ pub record BeginAlike (e f : Ends) : Type 0 where
   pub times : List ℕ
   pub times_are : e.times ≡ Some times
   pub times_too : f.times ≡ Some times
+
+-- no count of the source or of the sink has risen
+pub record HadNoStreamTrouble (given after : Given) (e : Ends) : Type 0 where
+  pub source : HasRisen given.faults after.faults → ⊥
+  pub sink : HasRisen e.taking.faults e.taking_after.faults → ⊥
+  pub stalls : HasRisen e.taking.stalls e.taking_after.stalls → ⊥
 
 -- Both print this text whole, with the same status, and leave the same store. Where the sinks had taken the same before,
 -- they have then.

@@ -19,6 +19,7 @@ ghost use Rattle.plfs_program.specs.UnitTrees.{AskForUnits};
 ghost use Rattle.plfs_program.specs.Ways.{on_threads};
 
 use crate::input::{Input, NoInput};
+use crate::plain_run_laws::small_files_are_the_machines;
 use crate::reporting::report;
 use crate::showing::Shown;
 use crate::top::{end_faulty, obey, refuse};
@@ -26,6 +27,8 @@ use crate::work::{Worked, work_on_threads};
 use command_line::Command;
 use edge_io::{Clock, Gate, Sink};
 use mount_sound::a_failed_mounting_leaves_a_sound_tree;
+use pack_input::inputs_are_told_apart;
+use plain_plays::packings_are_plain;
 use plfs_types::Word;
 use program_ends::{Ended, ends};
 use script_lang::{Script, ScriptTrouble, scripts_are_told_apart};
@@ -158,7 +161,7 @@ fn follow<
 /// store has risen and the sink took something of each piece, the status is 0, 1 or 3.
 ///
 /// Where no such count has risen and memory sufficed, what is shown of the lines of a script that is played is printed whole. If it has no `turn` and no `stop`
-/// lines, these are the lines that a plain machine says, as with `single`.
+/// lines, these are the lines that a plain machine says, as with `single`. So it is with what `cat`, `unpack`, `names` and `migrate` print.
 pub fn plfs<
     R: Threads + Wait + Sync,
     S: Store + Drop + Send,
@@ -184,5 +187,8 @@ pub fn plfs<
 {
     a_failed_mounting_leaves_a_sound_tree();
     scripts_are_told_apart();
+    inputs_are_told_apart();
+    packings_are_plain();
+    small_files_are_the_machines();
     follow(rt, alloc, words, input, out, store, clock, gate)
 }

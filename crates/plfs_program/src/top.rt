@@ -15,7 +15,7 @@ ghost use Rattle.program_ends.specs.Outcomes.{IsDone};
 ghost use Rattle.plfs_program.specs.Course.{Course, InputCourse};
 ghost use Rattle.plfs_program.specs.Plainly.{GoesPlainly};
 ghost use Rattle.plfs_program.specs.Playing.{PlayCourse};
-ghost use Rattle.plfs_program.specs.Repeated.{IsRepeatable};
+ghost use Rattle.plfs_program.specs.Repeated.{IsRepeatable, IsRepeatableWithFaults};
 ghost use Rattle.program_ends.specs.Ends.{ends_of, IsSaid};
 ghost use Rattle.program_ends.specs.Output.{IsPrinted, IsCutOff};
 ghost use Rattle.plfs_program.specs.Showing.{shows_of};
@@ -29,7 +29,8 @@ use crate::faults::fault_line;
 use crate::input::{Input, NoInput};
 use crate::migrating::migrate_mounted;
 use crate::pack_run::pack;
-use crate::program_replay_laws::single_runs_print_the_same;
+use crate::plain_run_laws::small_files_are_the_machines;
+use crate::program_replay_laws::{faulted_runs_print_the_same, single_runs_print_the_same};
 use crate::reporting::report;
 use crate::showing::Shown;
 use crate::small_files::{names_mounted, unpack_mounted};
@@ -38,10 +39,12 @@ use command_line::Command;
 use edge_io::{Clock, Sink};
 use mount_core::Mount;
 use mount_sound::a_failed_mounting_leaves_a_sound_tree;
+use pack_input::inputs_are_told_apart;
 use packing_laws::{
     a_container_of_units_shows_no_damage, a_fault_is_the_stores, a_mounting_leaves_units_alone,
     who_names_sees_one_file, who_unpacks_sees_one_file,
 };
+use plain_plays::packings_are_plain;
 use plfs_types::{LogicalName, Word};
 use program_ends::{Ended, USAGE, ends, say, say_unmounted};
 use script_lang::{Kind, Script, ScriptTrouble, scripts_are_told_apart};
@@ -353,8 +356,13 @@ fn follow<S: Store + Drop, C: Clock + Drop, I: Input, O: Sink>(
 /// are the lines that a plain machine says, which takes each statement in one step, as they are written. It begins with what the store has. Where the store
 /// told a sound tree there is such a machine, unless no mark is left, which line 0 says alone. In the tree that is left each writer that the machine has at the
 /// end has its droppings. `cat` then prints the bytes of the machine's file, all of them and in their order, or `refused no-file` where that has none of the name.
+/// `unpack` and `names` tell what stands in that file, or its first place that breaks a rule. Premise: its bytes are below 256. They leave the machine as it was.
+/// `migrate` leaves the machine its files, and has it draw a serial for each writer that is packed. What it counts are writers of the machine's room. These three
+/// too print `refused no-file` just where the machine has no file of the name. `migrate` is refused else only where no serial is left for a further writer.
+/// `pack` then opens a writer, writes each file behind those that the machine's file has in the region, syncs and closes, as one actor of the machine does by
+/// statements. Its line follows from that, where the machine's file has bytes below 256.
 /// Then each further run of these words that begins on such a store, with such a clock and before the same input, prints the same, with the same status, and
-/// leaves the same store.
+/// leaves the same store. So it is where acts of the store faulted, if those of both runs left the same stores, in the same order.
 pub fn single<S: Store + Drop, C: Clock + Drop, I: Input, O: Sink>(
     alloc: Global,
     words: &[Word],
@@ -369,9 +377,14 @@ pub fn single<S: Store + Drop, C: Clock + Drop, I: Input, O: Sink>(
     ensures complete { TellsSoundTree (S.stored store) → AskForUnits words.now (S.stored store) → IsAsked IsBuiltCommand words.now (I.given input.old) (I.given input.new) → HadNoTrouble (I.given input.old) (I.given input.new) (ends_of (C.times clock) (O.taking out.old) (O.taking out.new) (S.stored store) (option_map S.stored result.store)) → IsDone result.status }
     ensures plain { HadNoTrouble (I.given input.old) (I.given input.new) (ends_of (C.times clock) (O.taking out.old) (O.taking out.new) (S.stored store) (option_map S.stored result.store)) → result.status ≢ 3 → GoesPlainly words.now (I.given input.old) (ends_of (C.times clock) (O.taking out.old) (O.taking out.new) (S.stored store) (option_map S.stored result.store)) result.status }
     ensures repeatable { IsRepeatable words.now (I.given input.old) (I.given input.new) (ends_of (C.times clock) (O.taking out.old) (O.taking out.new) (S.stored store) (option_map S.stored result.store)) result.status }
+    ensures repeatable_with_faults { IsRepeatableWithFaults words.now (I.given input.old) (I.given input.new) (ends_of (C.times clock) (O.taking out.old) (O.taking out.new) (S.stored store) (option_map S.stored result.store)) result.status }
 {
     a_failed_mounting_leaves_a_sound_tree();
     scripts_are_told_apart();
+    inputs_are_told_apart();
+    packings_are_plain();
+    small_files_are_the_machines();
     single_runs_print_the_same();
+    faulted_runs_print_the_same();
     follow(alloc, words, input, out, store, clock)
 }

@@ -48,7 +48,7 @@ keeps_its_word host given given_after e asked lines more left before after s t =
     let clean : IsClean s.start = (before, ap (λ (z : Stored). z.tree) s.mounted.opened_is ∙ t.told, t.sound) in
     let same : s.end.store ≡ left = same_stored s.end.store left (sym s.kept ∙ t.left_is) in
     let tells : s.end.store.tree ≡ Some after = ap (λ (z : Stored). z.tree) same ∙ t.tells in
-    let story = play_has_story run e.stored s.start s.end fits s.mounted t.told t.sound s.play tells refl in
+    let story = play_has_story run e.stored s.start s.end fits s.mounted t.told t.sound s.play tells refl (mounting_keeps e.times e.stored s.start s.mounted) (ap (λ (z : Stored). z.faults) same) in
     record {
       orderly = play_orderly run s.start s.end fits (mounted_fine 0 e.times e.stored s.start s.mounted) clean s.play (mounting_keeps e.times e.stored s.start s.mounted) (ap (λ (z : Stored). z.faults) same);
       still = still run e.times e.stored s.start s.play.history s.end s.mounted t.told t.sound s.play.leads tells;

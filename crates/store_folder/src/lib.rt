@@ -17,6 +17,7 @@ mod store;
 mod syncing;
 
 pub use folder_calls::{
-    Asked, Calls, Cause, Failure, Kind, Place, Reason, Removal, System, SystemCalls, open_limit,
+    Asked, Calls, Cause, Failure, Kind, Place, ReadAhead, Reason, Removal, System, SystemCalls,
+    open_limit,
 };
 pub use store::{FolderStore, StoreByCalls};

@@ -21,12 +21,13 @@ ghost use Rattle.folder_calls.specs.Limits.{IsLimitBy, share_of};
 use crate::disk::Disk;
 use crate::syncing::{refusal, synced_by};
 use folder_calls::{
-    Calls, Cause, Doubt, Doubts, Failure, FileKey, Item, Place, Reason, System, SystemCalls,
-    doubt_by, open_limit, share_of,
+    Calls, Cause, Doubt, Doubts, Failure, FileKey, Item, Place, ReadAhead, Reason, System,
+    SystemCalls, doubt_by, open_limit, share_of,
 };
 use plfs_types::{NoMemory, Word};
 use std::alloc::{AllocError, Global};
 use std::fs::File;
+use std::sync::Arc;
 use store_api::{Answer, Step, Store, Trouble};
 
 /// How many acts were answered otherwise than by want of memory, and how many of these the system failed.
@@ -90,6 +91,19 @@ impl<R: System> StoreByCalls<SystemCalls<R>, File> {
     {
         keep_freed(alloc);
         StoreByCalls::keeping(SystemCalls::new(rt), alloc, root, share_of(limit, stores))
+    }
+
+    /// From now on a thread reads ahead where long reads of a file follow each other. It reads by a descriptor of its own.
+    /// What it read is forgotten as soon as the store writes to a file or cuts one. So a read gives what stands there.
+    pub fn read_ahead_by(&mut self, shared: Arc<ReadAhead>)
+        ensures counts { self.new.counts ≡ self.old.counts }
+        ensures place { (self.new.last ≡ self.old.last) × (self.new.cause ≡ self.old.cause) }
+        ensures doubts { self.new.doubts ≡ self.old.doubts }
+        ensures root { root_of self.new ≡ root_of self.old }
+        ensures files { (self.new.disk.open ≡ self.old.disk.open) × (self.new.disk.own ≡ self.old.disk.own) }
+        ensures rooms { (self.new.disk.rooms ≡ self.old.disk.rooms) × (self.new.disk.is_numbered ≡ self.old.disk.is_numbered) }
+    {
+        self.disk.calls.read_ahead_by(self.disk.alloc, shared);
     }
 }
 

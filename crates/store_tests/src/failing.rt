@@ -101,6 +101,10 @@ impl<R: System> Calls for FailingCalls<R> {
         self.calls.read_exact_at(file, into, at)
     }
 
+    fn read_ahead(&mut self, file: &File, at: u64, len: u64, left: u64) -> Option<Vec<u8>> {
+        self.calls.read_ahead(file, at, len, left)
+    }
+
     fn write_all_at(&mut self, file: &File, bytes: &[u8], at: u64) -> Result<(), Failure> {
         self.calls.write_all_at(file, bytes, at)
     }

@@ -9,6 +9,8 @@
 #[cfg(test)]
 mod acts;
 #[cfg(test)]
+mod ahead;
+#[cfg(test)]
 mod causes;
 #[cfg(test)]
 mod earlier;

@@ -2,12 +2,14 @@
 ghost use Rattle.std.specs.Prelude.{◌≡◌, ◌==◌, length, map, slice_get, position, is_some, IfOk};
 ghost use Rattle.std.specs.List.{slice_split, list_all};
 ghost use Rattle.system_edge.specs.Folders.{has_name, has_failed, failed_place};
-ghost use Rattle.store_folder.specs.Stored.{root_of};
+ghost use Rattle.store_folder.specs.Stored.{root_of, stored_of};
 
 use plfs_types::{NoMemory, Word};
 use spread_store::StoreList;
 use std::alloc::{AllocError, Global};
-use store_folder::{FolderStore, open_limit};
+use std::sync::Wait;
+use std::thread::Threads;
+use store_folder::{FolderStore, ReadAhead, open_limit};
 
 /// What stands between the folders in ROOT.
 const BETWEEN: char = ':';
@@ -32,15 +34,21 @@ pub fn are_named(folders: &[&str]) -> bool
     folders.iter().all(|folder| !folder.is_empty())
 }
 
-/// A store on each of the folders, in their order. No folder is touched.
-pub fn stores_of(rt: HostRuntime, folders: &[&str]) -> Result<Stores, NoMemory>
+/// A store on each of the folders, in their order. No folder is touched. With a handle a thread reads ahead of each, where one is had.
+pub fn stores_of<H: Threads + Wait + Copy + Send + 'static>(
+    rt: HostRuntime,
+    folders: &[&str],
+    ahead: Option<H>,
+) -> Result<Stores, NoMemory>
     ensures each { IfOk result (λ stores. map (λ store. root_of store) stores ≡ map (λ folder. folder.now) folders.now) }
     ensures count { IfOk result (λ stores. length stores ≡ length folders.now) }
 {
     let limit = open_limit(&rt);
     let mut stores = StoreList::new(rt.alloc());
     for folder in folders {
-        stores.push(store_on(rt, folder, limit, folders.len() as u64)?)?;
+        let mut store = store_on(rt, folder, limit, folders.len() as u64)?;
+        read_ahead(rt, &mut store, ahead);
+        stores.push(store)?;
     }
     Ok(stores)
 }
@@ -55,6 +63,23 @@ fn store_on(
 {
     let folder = Word::copy(rt.alloc(), folder)?;
     FolderStore::one_of(rt, rt.alloc(), &folder, limit, stores)
+}
+
+/// With a handle, a thread reads ahead of the store from now on, where one is had. That counts for time alone.
+pub fn read_ahead<H: Threads + Wait + Copy + Send + 'static>(
+    rt: HostRuntime,
+    store: &mut FolderStore<HostRuntime>,
+    ahead: Option<H>,
+)
+    ensures root { root_of store.new ≡ root_of store.old }
+    ensures counts { stored_of store.new ≡ stored_of store.old }
+{
+    let Some(handle) = ahead else {
+        return;
+    };
+    if let Ok(shared) = ReadAhead::start(handle, rt.alloc()) {
+        store.read_ahead_by(shared);
+    }
 }
 
 // Whether the store at this place has failed.

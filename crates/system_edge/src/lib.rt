@@ -18,7 +18,7 @@ mod standard;
 
 pub use amount::{Amount, file_length, files_length, hundredths, input_length};
 pub use called::{Called, Program, read_called};
-pub use folders::{MOST_FOLDERS, Stores, are_named, failed, folders_of, stores_of};
+pub use folders::{MOST_FOLDERS, Stores, are_named, failed, folders_of, read_ahead, stores_of};
 pub use inputs::{Files, Input, Unopened, open_files, split_from};
 pub use lock::{Denial, Denied, Locks, lock_folders};
 pub use named::program_called;

@@ -1,5 +1,5 @@
 -- What is shown of an index dropping that was read.
-use Rattle.std.proofs.Common.{◌≡◌, ℕ, zero, suc, ◌+◌, ◌*◌, ◌/◌, ◌%◌, ◌≤◌, ◌<◌, ◌^◌, ◌⊎◌, inl, inr, Bool, true, false, List, [], ◌∷◌, length, take, get_or, Option, Some, None, Result, Ok, Err, refl, ap, sym, ◌∙◌, subst, arith}
+use Rattle.std.proofs.Common.{◌≡◌, ℕ, zero, suc, ◌+◌, ◌-◌, ◌*◌, ◌/◌, ◌%◌, ◌≤◌, ◌<◌, ◌^◌, ◌⊎◌, inl, inr, Bool, true, false, List, [], ◌∷◌, length, take, get_or, Option, Some, None, Result, Ok, Err, refl, ap, sym, ◌∙◌, subst, arith}
 use Rattle.std.specs.Prelude.{slice_get, ◌↔◌, IsTrue, IfErr, IfOk, OnOk}
 use Rattle.std.proofs.lemmas.Bool.{cases_lt}
 use Rattle.std.proofs.lemmas.List.{take_all}
@@ -11,6 +11,7 @@ use Rattle.plfs_types.specs.declared.names.Path.{Path}
 use Rattle.index_entry.specs.Entries.{AreEntriesOf, logged, last_stamp}
 use Rattle.index_entry.specs.Spelling.{entry_in}
 use Rattle.index_entry.proofs.Facts.{length-records_in}
+use Rattle.plain_file.proofs.Facts.{shorter_last}
 use Rattle.store_api.specs.declared.tree.Room.{Room}
 use Rattle.store_api.specs.declared.tree.Tree.{Tree}
 use Rattle.store_api.specs.Acts.{Stored}
@@ -220,6 +221,12 @@ pub between_one : (room : Name) (host writer : ℕ) (landed : List Entry) (first
     → IfErr result (IsInside room host writer first.stamp last truncs) → IfErr result (IsBetween room host writer landed truncs)
 between_one room host writer landed first last truncs (Ok done) at e wrong = tt
 between_one room host writer landed first last truncs (Err finding) at e wrong = (wrong.0, wrong.1, wrong.2, inside_between wrong.0.stamp landed first at wrong.3 (subst (λ (n : ℕ). wrong.0.stamp ≤ n) e wrong.4))
+
+-- the stamp of the last one
+pub last_is : (last : ℕ) (entries : List Entry) (entry : Entry) → slice_get entries (length entries - 1) ≡ Some entry → entry.stamp ≡ last_stamp last entries
+last_is last [] entry at = absurd (cc)
+last_is last (e ∷ []) entry at = let same : e ≡ entry = cc in ap (λ (x : Entry). x.stamp) (sym same)
+last_is last (e ∷ d ∷ entries) entry at = last_is e.stamp (d ∷ entries) entry (shorter_last e d entries entry at)
 
 pub beside_nothing : (truncs : List Trunc) (landed : List Entry) → slice_get landed 0 ≡ None → AreBesideAll truncs landed
 beside_nothing truncs landed none = λ trunc one. subst (AreBeside trunc.stamp) (sym (none_there landed none)) (inl tt)

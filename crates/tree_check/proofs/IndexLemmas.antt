@@ -44,9 +44,10 @@ use Rattle.shape_check.specs.Rightness.{Fails}
 use Rattle.shape_check.specs.Seeing.{IsSeen, IsLookedAt}
 use Rattle.shape_check.proofs.Facts.{seen_on}
 use Rattle.tree_check.specs.declared.droppings.Dropping.{Dropping}
+use Rattle.tree_check.specs.declared.droppings.Read.{Read}
 use Rattle.tree_check.specs.declared.owners.Owner.{Owner}
-use Rattle.tree_check.specs.Droppings.{IsDroppingOf, landed_of}
-use Rattle.tree_check.specs.Indices.{IsOwned, IsOwnedAt, OfOwnedAt, IsLeftOf, TellsCover, AreOfCovers, TellsCovers, IsCoverOf}
+use Rattle.tree_check.specs.Droppings.{IsDroppingOf, IsOrderly, IsReadFor, landed_of}
+use Rattle.tree_check.specs.Indices.{IsOwned, IsOwnedAt, OfOwnedAt, IsLeftOf, TellsCover, TellsRead, AreOfCovers, TellsCovers, IsCoverOf}
 use Rattle.tree_check.specs.Owners.{AreOwnersOf}
 use Rattle.tree_check.proofs.DroppingLemmas.{landed_is}
 use Rattle.tree_check.proofs.Failing.{denied}
@@ -189,6 +190,10 @@ kept_few room host writer =
 abbrev pub TellsOne : Place → BTreeMap ℕ Owner → Cover → Option (List Piece) → Stored → Type 0
 TellsOne place owners cover found old = (tree : Tree) → IsSeen old tree → (at : IsOwned place owners tree) → TellsCover at.placed.room cover found
 
+-- what is told of what was read of a cover's writer
+abbrev pub TellsReading : Place → BTreeMap ℕ Owner → Cover → Option Read → Stored → Type 0
+TellsReading place owners cover found old = (tree : Tree) → IsSeen old tree → (at : IsOwned place owners tree) → TellsRead at.placed.room cover found
+
 abbrev pub TellsAll : Stored → Place → BTreeMap ℕ Owner → List Cover → List (List Piece) → Type 0
 TellsAll old place owners covers lists = (tree : Tree) → IsSeen old tree → (at : IsOwned place owners tree) → AreOfCovers at.placed.room covers lists
 
@@ -212,35 +217,46 @@ no_index place owners cover owner old has found e shows = λ tree seen at is. (
     let there : file_at room (index_path owner.host cover.writer) ≡ Some is.content = ap (λ (h : ℕ). file_at room (index_path h cover.writer)) host ∙ is.stands.there in
     false≢true (sym e ∙ sym (shows tree seen at.placed) ∙ there_so (file_at room (index_path owner.host cover.writer)) is.content there))
 
-cover_of : (place : Place) (owners : BTreeMap ℕ Owner) (cover : Cover) (owner : Owner) (dropping : Dropping) (old : Stored) (tree : Tree) (at : IsOwned place owners tree) (found : Option (List Piece)) → IsSeen old tree → get nat_cmp owners cover.writer ≡ Some owner
-    → is_some (file_at at.placed.room (index_path owner.host cover.writer)) ≡ true → IsDroppingOf owner.host cover.writer dropping tree at.placed.room → IsCoverOf cover (landed_of dropping) found → TellsCover at.placed.room cover found
-cover_of place owners cover owner dropping old tree at None seen found has d none = λ is. (
+-- what was read of the writer
+pub tells_reading : (place : Place) (owners : BTreeMap ℕ Owner) (cover : Cover) (owner : Owner) (dropping : Dropping) (old : Stored) (has : Bool) → get nat_cmp owners cover.writer ≡ Some owner → has ≡ true
+    → ShowsFile place (index_path owner.host cover.writer) has old → TellsReading place owners cover (Some (record { host = owner.host; writer = cover.writer; dropping = dropping })) old
+tells_reading place owners cover owner dropping old has found e shows = λ tree seen at. as_index at.placed.room owner.host cover.writer (at.owners_are.some cover.writer owner found) (shows tree seen at.placed ∙ e)
+
+pub none_was_read : (place : Place) (owners : BTreeMap ℕ Owner) (cover : Cover) (found : Option Read) (old : Stored) → found ≡ None → TellsReading place owners cover found old → TellsOne place owners cover None old
+none_was_read place owners cover found old none reads = subst (λ (f : Option Read). TellsReading place owners cover f old) none reads
+
+pub read_orderly : (place : Place) (writer : ℕ) (read : Read) (stored : Stored) → IsReadFor place writer (Some read) stored → IsOrderly writer read.dropping
+read_orderly place writer read stored is = subst (λ (w : ℕ). IsOrderly w read.dropping) is.0 is.1.0
+
+cover_of : (place : Place) (owners : BTreeMap ℕ Owner) (cover : Cover) (host : ℕ) (dropping : Dropping) (old : Stored) (tree : Tree) (at : IsOwned place owners tree) (found : Option (List Piece)) → IsSeen old tree
+    → ((content : List ℕ) × HasItem at.placed.room (item.Index host cover.writer) content) → IsDroppingOf host cover.writer dropping tree at.placed.room → IsCoverOf cover (landed_of dropping) found → TellsCover at.placed.room cover found
+cover_of place owners cover host dropping old tree at None seen index d none = λ is. (
     let room : Room = at.placed.room in
-    let host : is.host ≡ owner.host = sym (its_host owners room owner is.host cover.writer at.owners_are found (inl (is.content, is.stands))) in
-    let same : landed_entries room is.host cover.writer ≡ landed_of dropping = ap (λ (h : ℕ). landed_entries room h cover.writer) host ∙ sym (landed_is owner.host cover.writer dropping tree room d) in
+    let its : is.host ≡ host = one_host owners room host is.host cover.writer at.owners_are (inl index) (inl (is.content, is.stands)) in
+    let same : landed_entries room is.host cover.writer ≡ landed_of dropping = ap (λ (h : ℕ). landed_entries room h cover.writer) its ∙ sym (landed_is host cover.writer dropping tree room d) in
     let long : length (landed_entries room is.host cover.writer) ≡ length (landed_of dropping) = ap (λ (l : List Entry). length l) same in
     none (omega (arith, is.kept, kept_few room is.host cover.writer, long))
     (is.sum ∙ ap (λ (l : List Entry). logged (take cover.count l)) same)
     (is.latest ∙ ap (λ (l : List Entry). last_stamp 0 (take cover.count l)) same))
-cover_of place owners cover owner dropping old tree at (Some pieces) seen found has d (some, sum, latest, are) =
+cover_of place owners cover host dropping old tree at (Some pieces) seen index d (some, sum, latest, are) =
     let room : Room = at.placed.room in
-    let same : landed_of dropping ≡ landed_entries room owner.host cover.writer = landed_is owner.host cover.writer dropping tree room d in
-    let index = as_index room owner.host cover.writer (at.owners_are.some cover.writer owner found) has in (
+    let same : landed_of dropping ≡ landed_entries room host cover.writer = landed_is host cover.writer dropping tree room d in (
       record {
-        host = owner.host;
+        host = host;
         content = index.0;
         stands = index.1;
-        kept = kept_covers old tree place.number room owner.host cover.writer dropping cover.count seen at.placed.there d some;
+        kept = kept_covers old tree place.number room host cover.writer dropping cover.count seen at.placed.there d some;
         sum = sum ∙ ap (λ (l : List Entry). logged (take cover.count l)) same;
         latest = latest ∙ ap (λ (l : List Entry). last_stamp 0 (take cover.count l)) same;
       },
       subst (λ (l : List Entry). ArePieces (take cover.count l) [] pieces) same are,
     )
 
-pub cover_tells : (place : Place) (owners : BTreeMap ℕ Owner) (cover : Cover) (owner : Owner) (dropping : Dropping) (old a : Stored) (has : Bool) (found : Option (List Piece)) → get nat_cmp owners cover.writer ≡ Some owner → has ≡ true
-    → ShowsFile place (index_path owner.host cover.writer) has old → IsLookedAt old a → OfPlace (IsDroppingOf owner.host cover.writer dropping) place a → IsCoverOf cover (landed_of dropping) found → TellsOne place owners cover found old
-cover_tells place owners cover owner dropping old a has found is e shows to_a of tells = λ tree seen at.
-    cover_of place owners cover owner dropping old tree at found seen is (shows tree seen at.placed ∙ e) (of tree (seen_on old a tree to_a seen) at.placed) tells
+pub cover_tells : (place : Place) (owners : BTreeMap ℕ Owner) (cover : Cover) (read : Read) (old mid : Stored) (found : Option (List Piece)) → IsLookedAt old mid → TellsReading place owners cover (Some read) old
+    → IsReadFor place cover.writer (Some read) mid → IsCoverOf cover (landed_of read.dropping) found → TellsOne place owners cover found old
+cover_tells place owners cover read old mid found looked reads is tells = λ tree seen at. (
+    let d : IsDroppingOf read.host read.writer read.dropping tree at.placed.room = is.1.1 tree (seen_on old mid tree looked seen) at.placed in
+    cover_of place owners cover read.host read.dropping old tree at found seen (reads tree seen at) (subst (λ (w : ℕ). IsDroppingOf read.host w read.dropping tree at.placed.room) is.0 d) tells)
 
 -- ---- one cover after the other
 

@@ -10,6 +10,7 @@ mod WriterLemmas
 mod KnownLemmas
 mod IndexLemmas
 mod FlatLemmas
+mod AloneLemmas
 mod EachLemmas
 mod HaltLemmas
 mod OfItem

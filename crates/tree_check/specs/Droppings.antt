@@ -53,6 +53,11 @@ abbrev pub IsKept : Place → Option Read → Stored → Type 0
 IsKept place None stored = Unit {0}
 IsKept place (Some read) stored = IsOrderly read.writer read.dropping × OfPlace (IsDroppingOf read.host read.writer read.dropping) place stored
 
+-- what was read, if anything was, is what the room has of this writer
+abbrev pub IsReadFor : Place → ℕ → Option Read → Stored → Type 0
+IsReadFor place writer None stored = Unit {0}
+IsReadFor place writer (Some read) stored = (read.writer ≡ writer) × IsKept place (Some read) stored
+
 -- this one of the writer was kept
 abbrev pub WasKept : ℕ → ℕ → Option Read → Dropping → Type 0
 WasKept host writer kept dropping = kept ≡ Some (record { host = host; writer = writer; dropping = dropping })

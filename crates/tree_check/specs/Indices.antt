@@ -16,6 +16,8 @@ use Rattle.store_api.specs.declared.tree.Room.{Room}
 use Rattle.store_api.specs.declared.tree.Tree.{Tree}
 use Rattle.store_api.specs.Acts.{Stored}
 use Rattle.store_laws.specs.Files.{file_at}
+use Rattle.container_layout.specs.declared.items.Item.TheVariants.{Index}
+use Rattle.mount_sound.specs.Items.{HasItem}
 use Rattle.mount_sound.specs.Flats.{IsCovered, AreCovered, covered_entries}
 use Rattle.shape_check.specs.declared.files.Place.{Place}
 use Rattle.shape_check.specs.declared.finding.Complaint.{Complaint}
@@ -23,6 +25,7 @@ use Rattle.shape_check.specs.declared.finding.Finding.{Finding}
 use Rattle.shape_check.specs.Files.{IsPlaced}
 use Rattle.shape_check.specs.Rightness.{IsFoundIn}
 use Rattle.shape_check.specs.Seeing.{IsSeen}
+use Rattle.tree_check.specs.declared.droppings.Read.{Read}
 use Rattle.tree_check.specs.declared.owners.Owner.{Owner}
 use Rattle.tree_check.specs.Owners.{AreOwnersOf}
 
@@ -61,6 +64,11 @@ IsUnpacked bytes (Some entries) = Packs bytes entries
 -- the covers are of first entries of their writers, and the pieces are these entries'
 abbrev pub AreTheirs : Room → Flat → Type 0
 AreTheirs room flat = (entries : List Entry) × AreCovered room flat.covers entries × ArePieces entries [] flat.pieces
+
+-- what was read is of a host whose index dropping of the cover's writer is there, or the cover isn't of first entries of its writer
+abbrev pub TellsRead : Room → Cover → Option Read → Type 0
+TellsRead room cover None = IsCovered room cover → ⊥
+TellsRead room cover (Some read) = (content : List ℕ) × HasItem room (Index read.host cover.writer) content
 
 -- the pieces are those of the cover's entries, or the cover isn't of first entries of its writer
 abbrev pub TellsCover : Room → Cover → Option (List Piece) → Type 0

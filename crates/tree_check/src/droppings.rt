@@ -1,6 +1,7 @@
 //! An index dropping that was read, and what is told of its writer.
 ghost use Rattle.std.specs.Prelude.{◌≡◌, ◌≤◌, ◌↔◌, IsTrue, None, length, take, IfOk, IfErr, IfSome, OnOk};
 ghost use Rattle.tree_check.specs.Entries.{AreInOrder, IsMisfit};
+ghost use Rattle.index_entry.specs.Entries.{last_stamp};
 ghost use Rattle.mount_model.specs.Paths.{index_path, log_path as log_path_of};
 ghost use Rattle.shape_check.specs.Files.{IsPlaced, OfPlace};
 ghost use Rattle.shape_check.specs.Rightness.{Fails, IsFoundIn};
@@ -167,8 +168,18 @@ pub(crate) fn check_beside(
     let Some(first) = landed.first() else {
         return Ok(());
     };
-    let sum = sum_of(landed);
-    check_between(room, host, writer, first.stamp, sum.stamp, truncs)
+    let last = last_of(landed);
+    check_between(room, host, writer, first.stamp, last, truncs)
+}
+
+/// The stamp of the last entry, 0 where there is none.
+fn last_of(entries: &[Entry]) -> u64
+    ensures { result ≡ last_stamp 0 entries.now }
+{
+    match entries.last() {
+        Some(last) => last.stamp,
+        None => 0,
+    }
 }
 
 /// Whether the truncate has a stamp from the first to the last one.

@@ -19,7 +19,8 @@ ghost use Rattle.tree_check.specs.Entries.{AreInOrder};
 ghost use Rattle.tree_check.specs.Indices.{FindsOwned, IsOwned, IsOwnedAt, OfOwnedAt, IsLeftOf, IsDecoded, IsUnpacked, AreTheirs, TellsCover, TellsCovers, IsCoverOf};
 ghost use Rattle.tree_check.specs.Known.{IsRightItem};
 
-use crate::droppings::{Kept, Read, index_of, take_dropping};
+use crate::alone::{is_of_one, read_covered};
+use crate::droppings::{Kept, index_of, take_dropping};
 use crate::entries::sum_of;
 use crate::owners::{Owners, owner_of};
 use crate::whole::{bytes_or_none, has_file};
@@ -174,6 +175,7 @@ fn is_right_flat<S: Store>(
 {
     let bytes = bytes_or_none(alloc, store, place, path)?;
     let found = decoded(alloc, bytes.as_slice())?;
+    drop(bytes);
     match found {
         Some(flat) => are_covered(alloc, store, place, owners, &flat, kept),
         None => Ok(false),
@@ -210,9 +212,15 @@ fn are_covered<S: Store>(
     ensures err { IfErr result (Fails (IsOwned place.now owners.now) (S.stored store.old) (S.stored store.new)) }
     ensures named { IfErr result (IsFoundIn place.now.name (IsOfCover flat.now.covers)) }
 {
-    let found = pieces_of(alloc, store, place, owners, flat.covers.as_slice(), kept)?;
+    let covers = flat.covers.as_slice();
+    let pieces = flat.pieces.as_slice();
+    let alone = is_of_one(alloc, store, place, owners, covers, pieces, kept)?;
+    if alone {
+        return Ok(true);
+    }
+    let found = pieces_of(alloc, store, place, owners, covers, kept)?;
     match found {
-        Some(lists) => are_merged(alloc, lists, flat.pieces.as_slice()),
+        Some(lists) => are_merged(alloc, lists, pieces),
         None => Ok(false),
     }
 }
@@ -272,20 +280,12 @@ fn covered<S: Store>(
     ensures err { IfErr result (Fails (IsOwned place.now owners.now) (S.stored store.old) (S.stored store.new)) }
     ensures named { IfErr result (IsFoundIn place.now.name (IsOfWriter cover.now.writer)) }
 {
-    let Some(owner) = owner_of(owners, cover.writer) else {
+    let found = read_covered(alloc, store, place, owners, cover, kept)?;
+    let Some(read) = found else {
         return Ok(None);
     };
-    let has = has_file(store, place, &index_of(owner.host, cover.writer))?;
-    if !has {
-        return Ok(None);
-    }
-    let dropping = take_dropping(alloc, store, place, owner.host, cover.writer, kept)?;
-    let pieces = first_pieces(alloc, cover, dropping.landed())?;
-    *kept = Some(Read {
-        host: owner.host,
-        writer: cover.writer,
-        dropping,
-    });
+    let pieces = first_pieces(alloc, cover, read.dropping.landed())?;
+    *kept = Some(read);
     Ok(pieces)
 }
 

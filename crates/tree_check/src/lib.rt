@@ -5,6 +5,7 @@
 //! one index has. It stands on the store alone, and not on the mount.
 #![tactic(auto)]
 
+mod alone;
 mod checking;
 mod droppings;
 mod entries;

@@ -67,7 +67,7 @@ pub stored_logged : (ws : List Entry) → stored_bytes (map change_of ws) ≡ lo
 stored_logged ws = sym (is_sum_by total stored_by refl (λ _ _. refl) (map change_of ws)) ∙ total_logged ws
 
 -- the row of a writer tells how many bytes it stored
-row_stored : (m : Moment) (sound : IsSoundAt m) (room id : ℕ) (of : IsRowIn m.state room id) → of.row.stored ≡ logged (entries_in (m.issued room id))
+pub row_stored : (m : Moment) (sound : IsSoundAt m) (room id : ℕ) (of : IsRowIn m.state room id) → of.row.stored ≡ logged (entries_in (m.issued room id))
 row_stored m sound room id of =
     let there = sound.sound.placed id of.row of.held in
     let kept : IsKept there.0 of.row (m.issued of.row.room id) = (sound.sound.rooms of.row.room there.0 there.1).kept id of.row of.held refl in

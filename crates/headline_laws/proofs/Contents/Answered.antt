@@ -155,7 +155,7 @@ module _ (run : Run) (times : Option (List ℕ)) (mount : Stored) (start end : S
       from : MapsSo file Map (line.Map text) → (pieces : List Piece) × ArePiecesOf changes pieces × (text ≡ map entry_of pieces)
       from shows = (shows.0, are shows.0 shows.1, shows.2)
 
-  pieces_of : (file : OneFile) (pieces : List Piece) → ArePiecesSeen file pieces → ArePiecesOf (changes_in file.moment file.cut file.truncs) pieces
+  pub pieces_of : (file : OneFile) (pieces : List Piece) → ArePiecesSeen file pieces → ArePiecesOf (changes_in file.moment file.cut file.truncs) pieces
   pieces_of file pieces are =
       subst (λ es. ArePieces es (truncs_of (changes_in file.moment file.cut file.truncs)) pieces) (sym (entries_of-changes (writes_in file.moment file.cut) file.truncs))
       (subst (λ ts. ArePieces (entries_in (writes_in file.moment file.cut)) ts pieces) (sym (truncs_of-changes (writes_in file.moment file.cut) file.truncs)) are)

@@ -41,7 +41,7 @@ use Rattle.headline.specs.Names.{Story}
 use Rattle.headline.specs.Views.{IsWriter, Seen, counted, opened, shared, stood, writes_of}
 use Rattle.headline_laws.proofs.Statements.Known.{HasEntered, entered_more}
 use Rattle.headline_laws.proofs.Story.Entered.{entered_once}
-use Rattle.headline_laws.proofs.Story.Lines.{container}
+use Rattle.headline_laws.proofs.Story.Namings.{story_of}
 use Rattle.headline_laws.proofs.Trees.Reading.{grows_to, lawful_to, opened_line}
 use Rattle.headline_laws.proofs.Trees.Still.{Led, file_of, same as issued_still, take_map, told_before}
 use Rattle.headline_laws.proofs.Contents.Accounts.{issued_told}
@@ -61,7 +61,7 @@ module _ (run : Run) (times : Option (List ℕ)) (mount : Stored) (start end : S
   sound_begin = mounted_sound 0 times mount start run.before mounted tells sound
 
   abbrev pub homes : Story
-  homes = record { namings = []; of = container run Begin end fits sound_begin right }
+  homes = story_of run Begin end fits sound_begin right
 
   -- all that is issued in the run
   abbrev pub InAll : ℕ → ℕ → List Written

@@ -72,6 +72,18 @@ module _ (run : Run) (times : Option (List ℕ)) (mount : Stored) (start end : S
         let its = is ∙ ap (λ k. new_writer run o.actor k (told run) (before run t) (so_far run t)) same in
         (subst (λ k. k ≤ counted_in id cut) (sym (ap (λ (x : Writer). x.least) its)) b.0, subst (λ k. counted_in id cut ≤ k) (sym (ap (λ (x : Writer). x.most) its)) b.1)
 
+  -- where they do of each writer, they are those of a cut that the line may see
+  pub cut_between : (t : Told) (cut : List WriterCount) → ((w : Writer) → IsWriter run (homes run times mount start end fits mounted tells sound right left) (Homes t) (before run t) (so_far run t) w → (w.least ≤ counted_in w.id cut) × (counted_in w.id cut ≤ w.most)) → (file : OneFile) → cut ≡ printed_cut file.cut
+      → WritersRise file.room file.cut → (h : HasSeen run times mount start end fits mounted tells sound right left t file.moment file.cut) → IsCut run (homes run times mount start end fits mounted tells sound right left) t h.seen
+  cut_between t cut counts_lie file counts rise h = record {
+    known = All-from_recursion Known_so h.seen (All-weaker (IsSeen run times mount start end fits mounted tells sound right left t) Known_so h.seen (λ s known. (known.0, known.2)) h.known);
+    rise = subst IdsRise (ap (λ c. map (λ (x : WriterCount). x.writer) c) h.counts ∙ seen_rise h.seen) (ids_rise file.room file.cut rise);
+    between = λ w is. (let b = counts_lie w is in let same : count_of w.id h.seen ≡ counted_in w.id cut = seen_counted w.id h.seen ∙ ap (counted_in w.id) (sym (counts ∙ h.counts)) in (omega (arith, b.0, same), omega (arith, b.1, same)));
+  }
+    where
+      Known_so : Seen → Type 0
+      Known_so s = (1 ≤ s.count) × IsWriter run (homes run times mount start end fits mounted tells sound right left) (Homes t) (before run t) (so_far run t) s.writer
+
   module _ (free : run.in_order ≡ false) (t : Told) (cut : List WriterCount) (truncs : List Trunc) (is_line : IsLine run t) (opens_none : (other : ℕ) → t.outcome ≡ line.Opened other → ⊥)
       (sees : Sees run (First run times mount start end fits mounted tells sound right left) end fits (sound_first run times mount start end fits mounted tells sound right left) right t cut truncs) where
     -- the law of this file
@@ -80,11 +92,4 @@ module _ (run : Run) (times : Option (List ℕ)) (mount : Stored) (start end : S
 
     -- So the counts of the file are a cut that the line may see.
     pub cut_seen : (file : OneFile) → cut ≡ printed_cut file.cut → WritersRise file.room file.cut → (h : HasSeen run times mount start end fits mounted tells sound right left t file.moment file.cut) → IsCut run (homes run times mount start end fits mounted tells sound right left) t h.seen
-    cut_seen file counts rise h = record {
-      known = All-from_recursion Known_so h.seen (All-weaker (IsSeen run times mount start end fits mounted tells sound right left t) Known_so h.seen (λ s known. (known.0, known.2)) h.known);
-      rise = subst IdsRise (ap (λ c. map (λ (x : WriterCount). x.writer) c) h.counts ∙ seen_rise h.seen) (ids_rise file.room file.cut rise);
-      between = λ w is. (let b = counts_between w is in let same : count_of w.id h.seen ≡ counted_in w.id cut = seen_counted w.id h.seen ∙ ap (counted_in w.id) (sym (counts ∙ h.counts)) in (omega (arith, b.0, same), omega (arith, b.1, same)));
-    }
-      where
-        Known_so : Seen → Type 0
-        Known_so s = (1 ≤ s.count) × IsWriter run (homes run times mount start end fits mounted tells sound right left) (Homes t) (before run t) (so_far run t) s.writer
+    cut_seen = cut_between t cut counts_between

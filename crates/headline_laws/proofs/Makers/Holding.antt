@@ -14,7 +14,7 @@ use Rattle.store_laws.specs.There.{LacksRoom}
 use Rattle.store_laws.proofs.Facts.{acts_told, make_folder_told}
 use Rattle.mount_model.specs.declared.call.Ask.{Ask}
 use Rattle.mount_model.specs.declared.call.Call.{Call}
-use Rattle.mount_model.specs.declared.call.Call.TheVariants.{Hold, Mark, Release}
+use Rattle.mount_model.specs.declared.call.Call.TheVariants.{Hold, Mark, Move, Release}
 use Rattle.mount_model.specs.declared.reply.Refusal.{Refusal}
 use Rattle.mount_model.specs.declared.reply.Refusal.TheVariants.{Busy, Held, NotHolder}
 use Rattle.mount_model.specs.declared.reply.Reply.{Reply}
@@ -72,13 +72,13 @@ module _ (old : State) (caller : ℕ) (after : Table) (r : IsRegular old) where
   ]
 
 -- a call that was broken off leaves the table, or takes its caller out
-ended_table : (told : Told) (rep : Reply) (at : State) (caller : ℕ) (new : State) → IsEndedBy told rep at caller new → (new.table ≡ at.table) ⊎ (new.table ≡ without_caller caller at.table)
+pub ended_table : (told : Told) (rep : Reply) (at : State) (caller : ℕ) (new : State) → IsEndedBy told rep at caller new → (new.table ≡ at.table) ⊎ (new.table ≡ without_caller caller at.table)
 ended_table (Err trouble.NoMemory) rep at caller new e = inl (ap (λ (s : State). s.table) e.1)
 ended_table (Err trouble.Fault) rep at caller new e = inr (ap (λ (s : State). s.table) e.1)
 ended_table (Ok answer) rep at caller new e = inr (ap (λ (s : State). s.table) e.1)
 
 -- Behind a step that is no hold nobody holds that didn't before.
-held_before : (old new : State) (caller : ℕ) (ask : Ask) (rep : Reply) (q : ℕ) (h : Holder) → IsRegular old → IsStep old caller ask rep new → IsNoHold ask.call → holder_at q new.table.holders ≡ Some h → holder_at q old.table.holders ≡ Some h
+pub held_before : (old new : State) (caller : ℕ) (ask : Ask) (rep : Reply) (q : ℕ) (h : Holder) → IsRegular old → IsStep old caller ask rep new → IsNoHold ask.call → holder_at q new.table.holders ≡ Some h → holder_at q old.table.holders ≡ Some h
 held_before old new caller ask rep q h r step no_hold found = step_cases old caller ask rep new (holder_at q old.table.holders ≡ Some h) step
     (λ whole a. turned_held old caller new.table r ask.call q h no_hold (answers_turn old caller ask.call rep new a) found)
     (λ k some x.
@@ -164,6 +164,12 @@ marked_same old n holder size top rep new a = elim (answers_turn old n (Mark hol
   | inr made ↦ absurd made
 ]
 
+moved_same : (old : State) (n holder : ℕ) (to : Name) (rep : Reply) (new : State) → Answers old n (Move holder to) rep new → new.table.holders ≡ old.table.holders
+moved_same old n holder to rep new a = elim (answers_turn old n (Move holder to) rep new a).holders as (λ _. new.table.holders ≡ old.table.holders) [
+  | inl same ↦ same
+  | inr made ↦ absurd made
+]
+
 released_none : (h : Holder) (table : Table) (told : Told) (why : Refusal) → reply.Refused why ≡ (release_outcome h table told).reply → told ≡ Ok NoRoom
 released_none h table (Ok NoRoom) why e = refl
 released_none h table (Ok Made) why e = absurd (cc)
@@ -186,14 +192,13 @@ never_refused m s n holder h why after held a = elim (match_cases (holder_of n h
       no_room s.shape.tree x.room (i.room, i.there) ((make_folder_told x.room openhosts s.shape.tree does.told k.0 k.2).stays NoRoom (released_none x m.state.table does.told why does.answered) (λ clash. cc)).1
 ]
 
--- Who marked a truncate by a hold, and then lets go, isn't refused.
-pub lets_go : (n holder size top : ℕ) (h : Holder) (m : Moment) (e : Event) (u : List Event) (last : Event) (rest : List Event) (why : Refusal) → IsSoundAt m → IsLawful m.state (e ∷ (u ++ last ∷ rest)) → e.caller ≡ n → e.ask.call ≡ Mark holder size top → e.ask.stop ≡ None → holder_of n holder m.state.table.holders ≡ Some h → made_by n u ≡ []
+-- Who called by a hold what leaves it, and then lets go, isn't refused.
+goes_free : (n holder : ℕ) (h : Holder) (m : Moment) (e : Event) (u : List Event) (last : Event) (rest : List Event) (why : Refusal) → IsSoundAt m → IsLawful m.state (e ∷ (u ++ last ∷ rest)) → e.after.table.holders ≡ m.state.table.holders → holder_of n holder m.state.table.holders ≡ Some h → made_by n u ≡ []
     → last.caller ≡ n → last.ask.call ≡ Release holder → last.reply ≡ reply.Refused why → ⊥
-lets_go n holder size top h m e u last rest why s lawful own asked whole held none last_own last_asked refused =
+goes_free n holder h m e u last rest why s lawful same held none last_own last_asked refused =
     let is = is_holding n holder m.state.table.holders h held in
-    let a : Answers m.state n (Mark holder size top) e.reply e.after = subst (λ c. Answers m.state n c e.reply e.after) asked (subst (λ k. Answers m.state k e.ask.call e.reply e.after) own (whole_answer m.state e lawful.1 whole)) in
     let next : Moment = next_moment m e in
-    let found : holder_at holder next.state.table.holders ≡ Some h = ap (holder_at holder) (marked_same m.state n holder size top e.reply e.after a) ∙ is.found in
+    let found : holder_at holder next.state.table.holders ≡ Some h = ap (holder_at holder) same ∙ is.found in
     let there : Moment = moment_after next u in
     let s_next : IsSoundAt next = sound_next m e (u ++ last ∷ rest) lawful s in
     let s_there : IsSoundAt there = sound_after next u (legal_first next u (last ∷ rest) lawful.2) s_next in
@@ -202,3 +207,17 @@ lets_go n holder size top h m e u last rest why s lawful own asked whole held no
     let b : Answers there.state last.caller last.ask.call last.reply last.after = answered_call there.state last on.1 (λ x. let clash : reply.Stopped ≡ reply.Refused why = sym x ∙ refused in absurd (cc)) (λ x. let clash : reply.NoMemory ≡ reply.Refused why = sym x ∙ refused in absurd (cc)) in
     never_refused there s_there n holder h why last.after (holder_found n holder there.state.table.holders h still is.owned)
     (subst (λ r. Answers there.state n (Release holder) r last.after) refused (subst (λ c. Answers there.state n c last.reply last.after) last_asked (subst (λ k. Answers there.state k last.ask.call last.reply last.after) last_own b)))
+
+-- Who marked a truncate by a hold, and then lets go, isn't refused.
+pub lets_go : (n holder size top : ℕ) (h : Holder) (m : Moment) (e : Event) (u : List Event) (last : Event) (rest : List Event) (why : Refusal) → IsSoundAt m → IsLawful m.state (e ∷ (u ++ last ∷ rest)) → e.caller ≡ n → e.ask.call ≡ Mark holder size top → e.ask.stop ≡ None → holder_of n holder m.state.table.holders ≡ Some h → made_by n u ≡ []
+    → last.caller ≡ n → last.ask.call ≡ Release holder → last.reply ≡ reply.Refused why → ⊥
+lets_go n holder size top h m e u last rest why s lawful own asked whole held none last_own last_asked refused =
+    let a : Answers m.state n (Mark holder size top) e.reply e.after = subst (λ c. Answers m.state n c e.reply e.after) asked (subst (λ k. Answers m.state k e.ask.call e.reply e.after) own (whole_answer m.state e lawful.1 whole)) in
+    goes_free n holder h m e u last rest why s lawful (marked_same m.state n holder size top e.reply e.after a) held none last_own last_asked refused
+
+-- nor who gave a container another name by it
+pub moved_free : (n holder : ℕ) (to : Name) (h : Holder) (m : Moment) (e : Event) (u : List Event) (last : Event) (rest : List Event) (why : Refusal) → IsSoundAt m → IsLawful m.state (e ∷ (u ++ last ∷ rest)) → e.caller ≡ n → e.ask.call ≡ Move holder to → e.ask.stop ≡ None → holder_of n holder m.state.table.holders ≡ Some h → made_by n u ≡ []
+    → last.caller ≡ n → last.ask.call ≡ Release holder → last.reply ≡ reply.Refused why → ⊥
+moved_free n holder to h m e u last rest why s lawful own asked whole held none last_own last_asked refused =
+    let a : Answers m.state n (Move holder to) e.reply e.after = subst (λ c. Answers m.state n c e.reply e.after) asked (subst (λ k. Answers m.state k e.ask.call e.reply e.after) own (whole_answer m.state e lawful.1 whole)) in
+    goes_free n holder h m e u last rest why s lawful (moved_same m.state n holder to e.reply e.after a) held none last_own last_asked refused

@@ -1,4 +1,4 @@
--- What the statement of a truncate holds and marks, and how it ends then, whatever is replied.
+-- What the statement of a truncate or a rename holds, and marks or moves, and how it ends then, whatever is replied.
 use Rattle.std.proofs.Common.{◌≡◌, ◌⊎◌, inl, inr, ℕ, Bool, true, false, nat_eq, List, [], ◌∷◌, ◌++◌, Option, Some, None, Ok, Err, refl, sym, ap, ◌∙◌, subst, append_assoc, if◌then◌else◌}
 use Rattle.std.specs.Prelude.{⊤, Result}
 use Rattle.std.proofs.lemmas.List.{append-nil}
@@ -8,7 +8,7 @@ use Rattle.mount_model.specs.Program.{done}
 use Rattle.mount_model.proofs.Stories.Facts.{entries_both, entries_first}
 use Rattle.mount_model.specs.declared.call.Ask.{Ask}
 use Rattle.mount_model.specs.declared.call.Call.{Call}
-use Rattle.mount_model.specs.declared.call.Call.TheVariants.{Greet, Hold, Mark, Release}
+use Rattle.mount_model.specs.declared.call.Call.TheVariants.{Greet, Hold, Mark, Move, Release}
 use Rattle.mount_model.specs.declared.reply.Refusal.{Refusal}
 use Rattle.mount_model.specs.declared.reply.Reply.{Reply}
 use Rattle.mount_model.specs.declared.reply.Reply.TheVariants as reply
@@ -19,15 +19,16 @@ use Rattle.mount_model.specs.FlowListed.{told_by}
 use Rattle.mount_model.specs.FlowReplies.{Tries, failure, given, room_in}
 use Rattle.mount_model.specs.Running.{unbroken}
 use Rattle.trunc_rename.specs.Holding.{holder_in, holds, lets_go, or_lets_go, released}
+use Rattle.trunc_rename.specs.Renaming.{moved, moves, rename_program}
 use Rattle.trunc_rename.specs.Tops.{metadata_top, truncs_top}
 use Rattle.trunc_rename.specs.Truncating.{lists_metadata, lists_truncs, marked, marks, truncate_program}
 use Rattle.script_lang.specs.declared.line.Outcome.{Outcome}
 use Rattle.script_lang.specs.declared.line.Outcome.TheVariants as line
 use Rattle.script_lang.specs.declared.script.Statement.TheVariants as say
-use Rattle.outcomes.specs.Outcomes.{truncate_outcome}
+use Rattle.outcomes.specs.Outcomes.{rename_outcome, truncate_outcome}
 use Rattle.actor_core.specs.declared.kept.Kept.{Kept}
 use Rattle.actor_core.specs.declared.kept.Stop.{Stop}
-use Rattle.actor_core.specs.Endings.{Ending, gone, stopped, truncated}
+use Rattle.actor_core.specs.Endings.{Ending, gone, renamed, stopped, truncated}
 use Rattle.actor_core.specs.Statements.{disarmed, does, greeted, greeted_work, work_of}
 use Rattle.actor_core.specs.Stopping.{carried, due_bytes, is_due, one_nearer}
 use Rattle.actor_core.specs.Work.{Work, finishes}
@@ -38,19 +39,26 @@ use Rattle.headline_laws.proofs.Makers.Holding.{IsNoHold}
 
 -- ---- kinds of calls
 
+-- it truncates what is held, or gives it another name
 abbrev pub IsMark : Call → Type 0
 IsMark (Mark holder size top) = ⊤
+IsMark (Move holder to) = ⊤
 IsMark call = ⊥
+
+abbrev pub IsMove : Call → Type 0
+IsMove (Move holder to) = ⊤
+IsMove call = ⊥
 
 mark_or : (call : Call) → IsMark call ⊎ (IsMark call → ⊥)
 mark_or (Mark holder size top) = inl tt
+mark_or (Move holder to) = inl tt
 mark_or call = inr (λ is. is)
 
-hold_or : (call : Call) → ((room : ℕ) × (call ≡ Hold room)) ⊎ IsNoHold call
+pub hold_or : (call : Call) → ((room : ℕ) × (call ≡ Hold room)) ⊎ IsNoHold call
 hold_or (Hold room) = inl (room, refl)
 hold_or call = inr tt
 
-no_hold_held : (call : Call) (later : ℕ) → IsNoHold call → held_or call later ≡ later
+pub no_hold_held : (call : Call) (later : ℕ) → IsNoHold call → held_or call later ≡ later
 no_hold_held (Hold room) later none = absurd none
 no_hold_held call later none = refl
 
@@ -60,28 +68,30 @@ abbrev pub IsRefusal : Reply → Type 0
 IsRefusal r = (why : Refusal) × (r ≡ reply.Refused why)
 
 -- by what was replied to the mark, and as it let go
-abbrev pub MarkEnd : Reply → Reply → Outcome → Type 0
-MarkEnd r last (line.Truncated stamp) = r ≡ reply.Marked stamp
-MarkEnd r last (line.Refused because) = IsRefusal r ⊎ IsRefusal last
-MarkEnd r last line.Fault = ⊤
-MarkEnd r last line.Stopped = ⊤
-MarkEnd r last (line.Damaged folder file place) = ⊤
-MarkEnd r last other = ⊥
+abbrev pub MarkEnd : Call → Reply → Reply → Outcome → Type 0
+MarkEnd call r last (line.Truncated stamp) = r ≡ reply.Marked stamp
+MarkEnd call r last line.Renamed = IsMove call
+MarkEnd call r last (line.Refused because) = IsRefusal r ⊎ IsRefusal last
+MarkEnd call r last line.Fault = ⊤
+MarkEnd call r last line.Stopped = ⊤
+MarkEnd call r last (line.Damaged folder file place) = ⊤
+MarkEnd call r last other = ⊥
 
 abbrev pub TellsSo : (Ending → Type 0) → Work → Type 0
 TellsSo P (tells e work) = P e
 TellsSo P work = ⊥
 
 -- it was stopped within the mark, or it lets go and ends
-abbrev LetsGo : ℕ → Option ℕ → Reply → Work → Type 0
-LetsGo holder stop r (tells e work) = e.outcome ≡ line.Stopped
-LetsGo holder stop r (asks q k) = (stop ≡ None) × (q.call ≡ Release holder) × ((last : Reply) → TellsSo (λ e. MarkEnd r last e.outcome) (k last))
-LetsGo holder stop r work = ⊥
+abbrev LetsGo : ℕ → Call → Option ℕ → Reply → Work → Type 0
+LetsGo holder call stop r (tells e work) = e.outcome ≡ line.Stopped
+LetsGo holder call stop r (asks q k) = (stop ≡ None) × (q.call ≡ Release holder) × ((last : Reply) → TellsSo (λ e. MarkEnd call r last e.outcome) (k last))
+LetsGo holder call stop r work = ⊥
 
 -- ---- its calls
 
 abbrev IfMarks : Call → Type 0 → Type 0 → Type 0
 IfMarks (Mark holder size top) one other = one
+IfMarks (Move holder to) one other = one
 IfMarks call one other = other
 
 abbrev IfHolds : Call → (ℕ → Type 0) → Type 0 → Type 0
@@ -92,13 +102,14 @@ IfHolds call one other = other
 abbrev MayHolding : ℕ → Call → Type 0
 MayHolding holder (Hold room) = ⊥
 MayHolding holder (Mark other size top) = other ≡ holder
+MayHolding holder (Move other to) = other ≡ holder
 MayHolding holder call = ⊤
 
 abbrev HasHold : ℕ → Work → Type 0
 HasHold holder ends = ⊤
 HasHold holder (pauses work) = ⊥
 HasHold holder (tells e work) = ⊤
-HasHold holder (asks q k) = MayHolding holder q.call × ((r : Reply) → IfMarks q.call (LetsGo holder q.stop r (k r)) (HasHold holder (k r)))
+HasHold holder (asks q k) = MayHolding holder q.call × ((r : Reply) → IfMarks q.call (LetsGo holder q.call q.stop r (k r)) (HasHold holder (k r)))
 HasHold holder (shares programs k alone) = ⊥
 
 -- it was granted, or it is at its end
@@ -118,8 +129,8 @@ IsFree (shares programs k alone) = ⊥
 
 module _ (n : ℕ) where
   pub data MarkedSo (ev : Event) (holder : ℕ) (post : List Event) (e : Ending) : Type 0 where
-    halted : e.outcome ≡ line.Stopped → MarkedSo ev holder post e
-    let_go : (u : List Event) (last : Event) (rest : List Event) → post ≡ u ++ last ∷ rest → made_by n u ≡ [] → last.caller ≡ n → last.ask.call ≡ Release holder → ev.ask.stop ≡ None → MarkEnd ev.reply last.reply e.outcome → MarkedSo ev holder post e
+    halted : e.outcome ≡ line.Stopped → post ≡ [] → MarkedSo ev holder post e
+    let_go : (u : List Event) (last : Event) (rest : List Event) → post ≡ u ++ last ∷ rest → made_by n u ≡ [] → last.caller ≡ n → last.ask.call ≡ Release holder → ev.ask.stop ≡ None → MarkEnd ev.ask.call ev.reply last.reply e.outcome → rest ≡ [] → MarkedSo ev holder post e
 
   pub told_none : (P : Ending → Type 0) (work : Work) (mine : List Event) (spent : List (List Event)) (e : Ending) → TellsSo P work → ComesTo n work mine spent e → (mine ≡ []) × P e
   told_none P ends mine spent e is comes = absurd is
@@ -132,39 +143,57 @@ module _ (n : ℕ) where
   pub none_behind : (P : Ending → Type 0) (work : Work) (mine : List Event) (spent : List (List Event)) (e : Ending) → TellsSo P work → ComesTo n work mine spent e → (pre : List Event) (ev : Event) (post : List Event) → mine ≡ pre ++ ev ∷ post → ev.caller ≡ n → ⊥
   none_behind P work mine spent e is comes pre ev post split own = none_there n mine pre ev post split (ap (made_by n) (told_none P work mine spent e is comes).0) own
 
-  went_on : (holder : ℕ) (ev : Event) (work : Work) (mine : List Event) (spent : List (List Event)) (e : Ending) → LetsGo holder ev.ask.stop ev.reply work → ComesTo n work mine spent e → MarkedSo ev holder mine e
+  went_on : (holder : ℕ) (ev : Event) (work : Work) (mine : List Event) (spent : List (List Event)) (e : Ending) → LetsGo holder ev.ask.call ev.ask.stop ev.reply work → ComesTo n work mine spent e → MarkedSo ev holder mine e
   went_on holder ev ends mine spent e is comes = absurd is
   went_on holder ev (pauses work) mine spent e is comes = absurd is
-  went_on holder ev (tells end work) mine spent e is comes = halted (ap (λ (x : Ending). x.outcome) (sym comes.2) ∙ is)
+  went_on holder ev (tells end work) mine spent e is comes = halted (ap (λ (x : Ending). x.outcome) (sym comes.2) ∙ is) comes.0
   went_on holder ev (asks q k) mine spent e is m =
-      let_go m.before m.call m.after m.all m.none_before m.own (ap (λ (a : Ask). a.call) m.asked ∙ is.1) is.0 (told_none (λ x. MarkEnd ev.reply m.call.reply x.outcome) (k m.call.reply) m.after spent e (is.2 m.call.reply) m.goes_on).1
+      let over = told_none (λ x. MarkEnd ev.ask.call ev.reply m.call.reply x.outcome) (k m.call.reply) m.after spent e (is.2 m.call.reply) m.goes_on in
+      let_go m.before m.call m.after m.all m.none_before m.own (ap (λ (a : Ask). a.call) m.asked ∙ is.1) is.0 over.1 over.0
   went_on holder ev (shares programs k alone) mine spent e is comes = absurd is
 
   -- behind a mark it marks no more
-  no_more : (holder : ℕ) (stop : Option ℕ) (r : Reply) (work : Work) (mine : List Event) (spent : List (List Event)) (e : Ending) → LetsGo holder stop r work → ComesTo n work mine spent e → (pre : List Event) (ev : Event) (post : List Event) → mine ≡ pre ++ ev ∷ post → ev.caller ≡ n → IsMark ev.ask.call → ⊥
-  no_more holder stop r ends mine spent e is comes pre ev post split own marks = absurd is
-  no_more holder stop r (pauses work) mine spent e is comes pre ev post split own marks = absurd is
-  no_more holder stop r (tells end work) mine spent e is comes pre ev post split own marks = none_there n mine pre ev post split (ap (made_by n) comes.0) own
-  no_more holder stop r (asks q k) mine spent e is m pre ev post split own marks = elim (either_part m.before (m.call ∷ m.after) pre ev post (sym m.all ∙ split)) as (λ _. ⊥) [
+  no_more : (holder : ℕ) (call : Call) (stop : Option ℕ) (r : Reply) (work : Work) (mine : List Event) (spent : List (List Event)) (e : Ending) → LetsGo holder call stop r work → ComesTo n work mine spent e → (pre : List Event) (ev : Event) (post : List Event) → mine ≡ pre ++ ev ∷ post → ev.caller ≡ n → IsMark ev.ask.call → ⊥
+  no_more holder call stop r ends mine spent e is comes pre ev post split own marks = absurd is
+  no_more holder call stop r (pauses work) mine spent e is comes pre ev post split own marks = absurd is
+  no_more holder call stop r (tells end work) mine spent e is comes pre ev post split own marks = none_there n mine pre ev post split (ap (made_by n) comes.0) own
+  no_more holder call stop r (asks q k) mine spent e is m pre ev post split own marks = elim (either_part m.before (m.call ∷ m.after) pre ev post (sym m.all ∙ split)) as (λ _. ⊥) [
     | inl (u, front, later) ↦ none_there n m.before pre ev u front m.none_before own
     | inr (u, front, later) ↦ first_or_later u later
   ]
     where
       first_or_later : (u : List Event) → m.call ∷ m.after ≡ u ++ ev ∷ post → ⊥
       first_or_later [] later = subst IsMark (ap (λ (x : Event). x.ask.call) (sym (head_of m.call ev m.after post later)) ∙ ap (λ (a : Ask). a.call) m.asked ∙ is.1) marks
-      first_or_later (y ∷ u) later = none_behind (λ x. MarkEnd r m.call.reply x.outcome) (k m.call.reply) m.after spent e (is.2 m.call.reply) m.goes_on u ev post (tail_of m.call y m.after (u ++ ev ∷ post) later) own
-  no_more holder stop r (shares programs k alone) mine spent e is comes pre ev post split own marks = absurd is
+      first_or_later (y ∷ u) later = none_behind (λ x. MarkEnd call r m.call.reply x.outcome) (k m.call.reply) m.after spent e (is.2 m.call.reply) m.goes_on u ev post (tail_of m.call y m.after (u ++ ev ∷ post) later) own
+  no_more holder call stop r (shares programs k alone) mine spent e is comes pre ev post split own marks = absurd is
+
+  -- so it calls nothing of that kind behind it
+  pub marks_alone : (ev : Event) (holder : ℕ) (post : List Event) (e : Ending) → MarkedSo ev holder post e → (a : List Event) (x : Event) (b : List Event) → post ≡ a ++ x ∷ b → x.caller ≡ n → IsMark x.ask.call → ⊥
+  marks_alone ev holder post e (halted is over) a x b split own is_mark = none_there n post a x b split (ap (made_by n) over) own
+  marks_alone ev holder post e (let_go u last rest all none its asked stop told over) a x b split own is_mark = elim (either_part u (last ∷ rest) a x b (sym all ∙ split)) as (λ _. ⊥) [
+    | inl (v, front, later) ↦ none_there n u a x v front none own
+    | inr (v, front, later) ↦ first_or_later v later
+  ]
+    where
+      first_or_later : (v : List Event) → last ∷ rest ≡ v ++ x ∷ b → ⊥
+      first_or_later [] is = subst IsMark (ap (λ (y : Event). y.ask.call) (sym (head_of last x rest b is)) ∙ asked) is_mark
+      first_or_later (y ∷ v) is = none_there n rest v x b (tail_of last y rest (v ++ x ∷ b) is) (ap (made_by n) over) own
 
   one_call : (one other : Type 0) (call : Call) → IsMark call → IfMarks call one other → one
   one_call one other (Mark holder size top) is it = it
+  one_call one other (Move holder to) is it = it
   one_call one other call is it = absurd is
 
   other_call : (one other : Type 0) (call : Call) → (IsMark call → ⊥) → IfMarks call one other → other
   other_call one other (Mark holder size top) not it = absurd (not tt)
+  other_call one other (Move holder to) not it = absurd (not tt)
   other_call one other call not it = it
 
   its_holder : (holder : ℕ) (call : Call) (other size top : ℕ) → call ≡ Mark other size top → MayHolding holder call → other ≡ holder
   its_holder holder call other size top is may = subst (MayHolding holder) is may
+
+  moved_holder : (holder : ℕ) (call : Call) (other : ℕ) (to : List ℕ) → call ≡ Move other to → MayHolding holder call → other ≡ holder
+  moved_holder holder call other to is may = subst (MayHolding holder) is may
 
   no_other_hold : (holder : ℕ) (call : Call) → MayHolding holder call → IsNoHold call
   no_other_hold holder (Hold room) may = absurd may
@@ -174,6 +203,7 @@ module _ (n : ℕ) where
   pub record MarksBy (holder : ℕ) (pre : List Event) (ev : Event) (post : List Event) (e : Ending) : Type 0 where
     pub no_holds : (a : List Event) (x : Event) (b : List Event) → pre ≡ a ++ x ∷ b → x.caller ≡ n → IsNoHold x.ask.call
     pub its : (other size top : ℕ) → ev.ask.call ≡ Mark other size top → other ≡ holder
+    pub moves_it : (other : ℕ) (to : List ℕ) → ev.ask.call ≡ Move other to → other ≡ holder
     pub ended : MarkedSo ev holder post e
 
   marks_by : (holder : ℕ) (work : Work) (mine : List Event) (spent : List (List Event)) (e : Ending) → HasHold holder work → ComesTo n work mine spent e → (pre : List Event) (ev : Event) (post : List Event) → mine ≡ pre ++ ev ∷ post → ev.caller ≡ n → IsMark ev.ask.call → MarksBy holder pre ev post e
@@ -191,11 +221,12 @@ module _ (n : ℕ) where
       here : m.call ≡ ev → m.after ≡ post → pre ≡ m.before ++ [] → MarksBy holder pre ev post e
       here same rest front =
           let its_call : ev.ask.call ≡ q.call = ap (λ (x : Event). x.ask.call) (sym same) ∙ asked in
-          let goes : LetsGo holder q.stop m.call.reply (k m.call.reply) = one_call (LetsGo holder q.stop m.call.reply (k m.call.reply)) (HasHold holder (k m.call.reply)) q.call (subst IsMark its_call marks) (has.1 m.call.reply) in
-          let there : LetsGo holder m.call.ask.stop m.call.reply (k m.call.reply) = subst (λ s. LetsGo holder s m.call.reply (k m.call.reply)) (sym (ap (λ (a : Ask). a.stop) m.asked)) goes in
+          let goes : LetsGo holder q.call q.stop m.call.reply (k m.call.reply) = one_call (LetsGo holder q.call q.stop m.call.reply (k m.call.reply)) (HasHold holder (k m.call.reply)) q.call (subst IsMark its_call marks) (has.1 m.call.reply) in
+          let there : LetsGo holder m.call.ask.call m.call.ask.stop m.call.reply (k m.call.reply) = subst (λ (a : Ask). LetsGo holder a.call a.stop m.call.reply (k m.call.reply)) (sym m.asked) goes in
           record {
             no_holds = λ a x b is its. absurd (none_there n m.before a x b (sym (append-nil m.before) ∙ sym front ∙ is) m.none_before its);
             its = λ other size top is. its_holder holder q.call other size top (sym its_call ∙ is) has.0;
+            moves_it = λ other to is. moved_holder holder q.call other to (sym its_call ∙ is) has.0;
             ended = subst (λ z. MarkedSo ev holder z e) rest (subst (λ x. MarkedSo x holder m.after e) same (went_on holder m.call (k m.call.reply) m.after spent e there m.goes_on));
           }
 
@@ -212,10 +243,10 @@ module _ (n : ℕ) where
       first_or_later : (u : List Event) → pre ≡ m.before ++ u → m.call ∷ m.after ≡ u ++ ev ∷ post → (HasHold holder (k m.call.reply) → (v : List Event) → m.after ≡ v ++ ev ∷ post → MarksBy holder v ev post e) → MarksBy holder pre ev post e
       first_or_later [] front later rest = here (head_of m.call ev m.after post later) (tail_of m.call ev m.after post later) front
       first_or_later (y ∷ u) front later rest = elim (mark_or q.call) as (λ _. MarksBy holder pre ev post e) [
-        | inl is ↦ absurd (no_more holder q.stop m.call.reply (k m.call.reply) m.after spent e (one_call (LetsGo holder q.stop m.call.reply (k m.call.reply)) (HasHold holder (k m.call.reply)) q.call is (has.1 m.call.reply)) m.goes_on u ev post (tail_of m.call y m.after (u ++ ev ∷ post) later) own marks)
+        | inl is ↦ absurd (no_more holder q.call q.stop m.call.reply (k m.call.reply) m.after spent e (one_call (LetsGo holder q.call q.stop m.call.reply (k m.call.reply)) (HasHold holder (k m.call.reply)) q.call is (has.1 m.call.reply)) m.goes_on u ev post (tail_of m.call y m.after (u ++ ev ∷ post) later) own marks)
         | inr not ↦
-            let c = rest (other_call (LetsGo holder q.stop m.call.reply (k m.call.reply)) (HasHold holder (k m.call.reply)) q.call not (has.1 m.call.reply)) u (tail_of m.call y m.after (u ++ ev ∷ post) later) in
-            record { no_holds = before_it y u front (head_of m.call y m.after (u ++ ev ∷ post) later) c; its = c.its; ended = c.ended }
+            let c = rest (other_call (LetsGo holder q.call q.stop m.call.reply (k m.call.reply)) (HasHold holder (k m.call.reply)) q.call not (has.1 m.call.reply)) u (tail_of m.call y m.after (u ++ ev ∷ post) later) in
+            record { no_holds = before_it y u front (head_of m.call y m.after (u ++ ev ∷ post) later) c; its = c.its; moves_it = c.moves_it; ended = c.ended }
       ]
   marks_by holder (shares programs k alone) mine spent e has comes pre ev post split own marks = absurd has
 
@@ -309,24 +340,24 @@ module _ (kept : Kept) where
   abbrev Halted : Work
   Halted = finishes (stopped kept)
 
-  mark_ends : (r last : Reply) → MarkEnd r last (truncate_outcome (released (marked r) last))
-  mark_ends (reply.Marked stamp) reply.Done = refl
-  mark_ends (reply.Marked stamp) (reply.Refused why) = inr (why, refl)
-  mark_ends (reply.Marked stamp) (reply.Damaged folder file) = tt
-  mark_ends (reply.Marked stamp) last = tt
-  mark_ends (reply.Refused why) last = inl (why, refl)
-  mark_ends (reply.Damaged folder file) last = tt
-  mark_ends r last = tt
+  mark_ends : (call : Call) (r last : Reply) → MarkEnd call r last (truncate_outcome (released (marked r) last))
+  mark_ends call (reply.Marked stamp) reply.Done = refl
+  mark_ends call (reply.Marked stamp) (reply.Refused why) = inr (why, refl)
+  mark_ends call (reply.Marked stamp) (reply.Damaged folder file) = tt
+  mark_ends call (reply.Marked stamp) last = tt
+  mark_ends call (reply.Refused why) last = inl (why, refl)
+  mark_ends call (reply.Damaged folder file) last = tt
+  mark_ends call r last = tt
 
-  ends_so : (r last : Reply) (b : Bool) (armed : Option Stop) → TellsSo (λ e. MarkEnd r last e.outcome) (if b then Halted else carried (done (released (marked r) last)) armed Then Halted)
-  ends_so r last true armed = tt
-  ends_so r last false armed = mark_ends r last
+  ends_so : (call : Call) (r last : Reply) (b : Bool) (armed : Option Stop) → TellsSo (λ e. MarkEnd call r last e.outcome) (if b then Halted else carried (done (released (marked r) last)) armed Then Halted)
+  ends_so call r last true armed = tt
+  ends_so call r last false armed = mark_ends call r last
 
-  goes_so : (holder : ℕ) (r : Reply) (stop : Option Stop) → LetsGo holder (due_bytes stop) r (if is_due stop then Halted else carried (lets_go holder (marked r)) (one_nearer stop) Then Halted)
-  goes_so holder r None = (refl, refl, λ last. ends_so r last false None)
-  goes_so holder r (Some s) = elim (nat_eq s.call 1) as (λ b. LetsGo holder (if b then Some s.bytes else None) r (if b then Halted else carried (lets_go holder (marked r)) (one_nearer (Some s)) Then Halted)) [
+  goes_so : (holder : ℕ) (call : Call) (r : Reply) (stop : Option Stop) → LetsGo holder call (due_bytes stop) r (if is_due stop then Halted else carried (lets_go holder (marked r)) (one_nearer stop) Then Halted)
+  goes_so holder call r None = (refl, refl, λ last. ends_so call r last false None)
+  goes_so holder call r (Some s) = elim (nat_eq s.call 1) as (λ b. LetsGo holder call (if b then Some s.bytes else None) r (if b then Halted else carried (lets_go holder (marked r)) (one_nearer (Some s)) Then Halted)) [
     | true ↦ refl
-    | false ↦ (refl, refl, λ last. ends_so r last (is_due (one_nearer (Some s))) (one_nearer (one_nearer (Some s))))
+    | false ↦ (refl, refl, λ last. ends_so call r last (is_due (one_nearer (Some s))) (one_nearer (one_nearer (Some s))))
   ]
 
   halted_or : (holder : ℕ) (b : Bool) (work : Work) → HasHold holder work → HasHold holder (if b then Halted else work)
@@ -334,7 +365,7 @@ module _ (kept : Kept) where
   halted_or holder false work has = has
 
   marks_so : (holder size top : ℕ) (stop : Option Stop) → HasHold holder (carried (marks size holder top) stop Then Halted)
-  marks_so holder size top stop = (refl, λ r. goes_so holder r stop)
+  marks_so holder size top stop = (refl, λ r. goes_so holder (Mark holder size top) r stop)
 
   troubled : (holder : ℕ) (why : Stuck) (stop : Option Stop) → HasHold holder (carried (lets_go holder (Err why)) stop Then Halted)
   troubled holder why stop = (tt, λ r. halted_or holder (is_due stop) (carried (done (released (Err why) r)) (one_nearer stop) Then Halted) tt)
@@ -385,4 +416,65 @@ pub truncate_free : (kept : Kept) (name : List ℕ) (size : ℕ) → IsFree (wor
 truncate_free kept name size = elim kept.greeted as (λ b. IsFree (if b then greeted_work kept (say.Trunc name size) else asks (unbroken Greet) (λ r. greeted_work (greeted kept) (say.Trunc name size)))) [
   | true ↦ greeted_so kept name size
   | false ↦ ((λ is. is), λ r. greeted_so (greeted kept) name size)
+]
+
+-- ---- the statement of a rename
+
+module _ (kept : Kept) where
+  abbrev Next : Option Stop → Result (Unit {0}) Stuck → Work
+  Next left result = finishes (renamed kept result)
+
+  abbrev Ended : Work
+  Ended = finishes (stopped kept)
+
+  move_ends : (holder : ℕ) (to : List ℕ) (r last : Reply) → MarkEnd (Move holder to) r last (rename_outcome (released (moved r) last))
+  move_ends holder to reply.Done reply.Done = tt
+  move_ends holder to reply.Done (reply.Refused why) = inr (why, refl)
+  move_ends holder to reply.Done (reply.Damaged folder file) = tt
+  move_ends holder to reply.Done last = tt
+  move_ends holder to (reply.Refused why) last = inl (why, refl)
+  move_ends holder to (reply.Damaged folder file) last = tt
+  move_ends holder to r last = tt
+
+  move_over : (holder : ℕ) (to : List ℕ) (r last : Reply) (b : Bool) (armed : Option Stop) → TellsSo (λ e. MarkEnd (Move holder to) r last e.outcome) (if b then Ended else carried (done (released (moved r) last)) armed Next Ended)
+  move_over holder to r last true armed = tt
+  move_over holder to r last false armed = move_ends holder to r last
+
+  move_goes : (holder : ℕ) (to : List ℕ) (r : Reply) (stop : Option Stop) → LetsGo holder (Move holder to) (due_bytes stop) r (if is_due stop then Ended else carried (lets_go holder (moved r)) (one_nearer stop) Next Ended)
+  move_goes holder to r None = (refl, refl, λ last. move_over holder to r last false None)
+  move_goes holder to r (Some s) = elim (nat_eq s.call 1) as (λ b. LetsGo holder (Move holder to) (if b then Some s.bytes else None) r (if b then Ended else carried (lets_go holder (moved r)) (one_nearer (Some s)) Next Ended)) [
+    | true ↦ refl
+    | false ↦ (refl, refl, λ last. move_over holder to r last (is_due (one_nearer (Some s))) (one_nearer (one_nearer (Some s))))
+  ]
+
+  moves_so : (holder : ℕ) (to : List ℕ) (stop : Option Stop) → HasHold holder (carried (moves to holder) stop Next Ended)
+  moves_so holder to stop = (refl, λ r. move_goes holder to r stop)
+
+  move_granted : (to : List ℕ) (r : Reply) (b : Bool) (stop : Option Stop) → Granted r (if b then Ended else carried (given (holder_in r) (failure r) (moves to)) stop Next Ended)
+  move_granted to (reply.Holding holder) true stop = tt
+  move_granted to (reply.Holding holder) false stop = moves_so holder to stop
+  move_granted to r true stop = tt
+  move_granted to r false stop = tt
+
+  move_holds : (to : List ℕ) (room : ℕ) (stop : Option Stop) → IsFree (carried (holds room (moves to)) stop Next Ended)
+  move_holds to room stop = ((λ is. is), λ r. move_granted to r (is_due stop) (one_nearer stop))
+
+  move_found : (to : List ℕ) (r : Reply) (b : Bool) (stop : Option Stop) → IsFree (if b then Ended else carried (given (room_in r) (failure r) (λ room. holds room (moves to))) stop Next Ended)
+  move_found to r true stop = tt
+  move_found to (reply.Room room) false stop = move_holds to room stop
+  move_found to r false stop = tt
+
+  rename_so : (name to : List ℕ) (stop : Option Stop) → IsFree (carried (rename_program name to) stop Next Ended)
+  rename_so name to stop = ((λ is. is), λ r. move_found to r (is_due stop) (one_nearer stop))
+
+rename_greeted : (kept : Kept) (name to : List ℕ) → IsFree (greeted_work kept (say.Rename name to))
+rename_greeted kept name to = elim kept.gone as (λ b. IsFree (if b then finishes (gone kept) else does (disarmed kept) kept.armed (say.Rename name to))) [
+  | true ↦ tt
+  | false ↦ rename_so (disarmed kept) name to kept.armed
+]
+
+pub rename_free : (kept : Kept) (name to : List ℕ) → IsFree (work_of kept (say.Rename name to))
+rename_free kept name to = elim kept.greeted as (λ b. IsFree (if b then greeted_work kept (say.Rename name to) else asks (unbroken Greet) (λ r. greeted_work (greeted kept) (say.Rename name to)))) [
+  | true ↦ rename_greeted kept name to
+  | false ↦ ((λ is. is), λ r. rename_greeted (greeted kept) name to)
 ]

@@ -51,9 +51,10 @@ use Rattle.headline.specs.Changes.{Writing, writing_at}
 use Rattle.headline.specs.Files.{reader_at}
 use Rattle.headline_laws.proofs.Story.Attributed.{Attributed, attributed, ends_before}
 use Rattle.headline_laws.proofs.Story.Lines.{AnyLine, container, first_held, held_room, line_here, room_of}
+use Rattle.headline_laws.proofs.Story.Namings.{story_of}
 use Rattle.headline_laws.proofs.Makers.Back.{mounted_back}
 use Rattle.headline_laws.proofs.Makers.Holding.{HoldsOnly, lets_go, only_along, only_granted}
-use Rattle.headline_laws.proofs.Makers.Holds.{HoldsAndMarks, IsMark, IsRefusal, MarkEnd, MarkedSo, halted, holds_and_marks, let_go, truncate_free}
+use Rattle.headline_laws.proofs.Makers.Holds.{HoldsAndMarks, IsMark, IsMove, IsRefusal, MarkEnd, MarkedSo, halted, holds_and_marks, let_go, truncate_free}
 use Rattle.headline_laws.proofs.Makers.NewTruncs.{NewTrunc, stood_or_new}
 use Rattle.headline_laws.proofs.Trees.Reading.{fronts, grows_to, last_tree, lawful_to}
 use Rattle.headline_laws.proofs.Trees.Sights.{Sight, reader_sees, sight_of, stat_line}
@@ -121,6 +122,28 @@ module _ (run : Run) (m : Moment) (end : State) (fits : FitsScript run.script) (
   abbrev Of : Told → ℕ
   Of = container run m end fits sound right
 
+  -- the hold by which a line's actor truncates or renames is of the container that it holds first in the part of the line
+  pub held_first : (r : Option Told) (w : Writing) (t : Told) (l : Line r w t) (first : List Event) (e : Event) (later : List Event) → l.line.part.mine ≡ first ++ e ∷ later → (k : HoldsAndMarks l.number l.line.part.mine first e later l.line.part.e) → (h : Holder)
+      → holder_of l.number k.holder (moment_after m (l.line.part.earlier ++ first)).state.table.holders ≡ Some h → h.room ≡ held_room l.number (length run.after.rooms) l.line.part.mine
+  held_first r w t l first e later in_it k h held =
+      let p = l.line.part in
+      let pre : List Event = p.earlier ++ k.first in
+      let behind : List Event = k.mid ++ (e ∷ later ++ p.later) in
+      let all : right.history ≡ pre ++ (k.hold ∷ behind) =
+      p.split ∙ ap (λ z. p.earlier ++ (z ++ p.later)) in_it ∙ ap (λ z. p.earlier ++ ((z ++ e ∷ later) ++ p.later)) k.is
+      ∙ ap (λ z. p.earlier ++ z) (append_assoc (k.first ++ k.hold ∷ k.mid) (e ∷ later) p.later ∙ append_assoc k.first (k.hold ∷ k.mid) (e ∷ later ++ p.later))
+      ∙ sym (append_assoc p.earlier k.first (k.hold ∷ behind)) in
+      let lawful : IsLawful m.state (pre ++ (k.hold ∷ behind)) = subst (IsLawful m.state) all right.leads.lawful in
+      let at : Moment = moment_after m pre in
+      let sound_at : IsSoundAt at = sound_after m pre (legal_first m pre (k.hold ∷ behind) lawful) sound in
+      let here : IsLawful at.state (k.hold ∷ behind) = legal_rest m pre (k.hold ∷ behind) lawful in
+      let next : Moment = next_moment at k.hold in
+      let only : HoldsOnly l.number k.holder k.room next.state = only_granted l.number k.room k.holder at k.hold sound_at here.1 k.own k.asked k.told in
+      let on : HoldsOnly l.number k.holder k.room (moment_after next k.mid).state = only_along l.number k.holder k.room next k.mid (legal_first next k.mid (e ∷ later ++ p.later) here.2) (sound_next at k.hold behind here sound_at) k.marks.no_holds only in
+      let is : moment_after m (p.earlier ++ first) ≡ moment_after next k.mid = ap (λ z. moment_after m (p.earlier ++ z)) k.is ∙ ap (moment_after m) (sym (append_assoc p.earlier k.first (k.hold ∷ k.mid))) ∙ moment-append m pre (k.hold ∷ k.mid) in
+      let there : holder_of l.number k.holder (moment_after next k.mid).state.table.holders ≡ Some h = ap (λ (x : Moment). holder_of l.number k.holder x.state.table.holders) (sym is) ∙ held in
+      on h (is_holding l.number k.holder (moment_after next k.mid).state.table.holders h there) ∙ sym (k.room_is (length run.after.rooms))
+
   -- ---- a mark in the part of its line
 
   module _ (r : Option Told) (w : Writing) (t : Told) (l : Line r w t) (name : List ℕ) (size : ℕ) (says : t.statement ≡ Truncate name size) where
@@ -140,24 +163,8 @@ module _ (run : Run) (m : Moment) (end : State) (fits : FitsScript run.script) (
     held_then : (first : List Event) (e : Event) (later : List Event) → Mine ≡ first ++ e ∷ later → e.caller ≡ l.number → (holder its_size top : ℕ) → e.ask.call ≡ Mark holder its_size top → (h : Holder) → holder_of l.number holder (moment_after m (l.line.part.earlier ++ first)).state.table.holders ≡ Some h
         → h.room ≡ held_room l.number Nothing Mine
     held_then first e later in_it own holder its_size top asked h held =
-        let p = l.line.part in
         let k = holds first e later in_it own (subst IsMark (sym asked) tt) in
-        let pre : List Event = p.earlier ++ k.first in
-        let behind : List Event = k.mid ++ (e ∷ later ++ p.later) in
-        let all : right.history ≡ pre ++ (k.hold ∷ behind) =
-        p.split ∙ ap (λ z. p.earlier ++ (z ++ p.later)) in_it ∙ ap (λ z. p.earlier ++ ((z ++ e ∷ later) ++ p.later)) k.is
-        ∙ ap (λ z. p.earlier ++ z) (append_assoc (k.first ++ k.hold ∷ k.mid) (e ∷ later) p.later ∙ append_assoc k.first (k.hold ∷ k.mid) (e ∷ later ++ p.later))
-        ∙ sym (append_assoc p.earlier k.first (k.hold ∷ behind)) in
-        let lawful : IsLawful m.state (pre ++ (k.hold ∷ behind)) = subst (IsLawful m.state) all right.leads.lawful in
-        let at : Moment = moment_after m pre in
-        let sound_at : IsSoundAt at = sound_after m pre (legal_first m pre (k.hold ∷ behind) lawful) sound in
-        let here : IsLawful at.state (k.hold ∷ behind) = legal_rest m pre (k.hold ∷ behind) lawful in
-        let next : Moment = next_moment at k.hold in
-        let only : HoldsOnly l.number k.holder k.room next.state = only_granted l.number k.room k.holder at k.hold sound_at here.1 k.own k.asked k.told in
-        let on : HoldsOnly l.number k.holder k.room (moment_after next k.mid).state = only_along l.number k.holder k.room next k.mid (legal_first next k.mid (e ∷ later ++ p.later) here.2) (sound_next at k.hold behind here sound_at) k.marks.no_holds only in
-        let is : moment_after m (p.earlier ++ first) ≡ moment_after next k.mid = ap (λ z. moment_after m (p.earlier ++ z)) k.is ∙ ap (moment_after m) (sym (append_assoc p.earlier k.first (k.hold ∷ k.mid))) ∙ moment-append m pre (k.hold ∷ k.mid) in
-        let there : holder_of l.number k.holder (moment_after next k.mid).state.table.holders ≡ Some h = ap (λ x. holder_of l.number x (moment_after next k.mid).state.table.holders) (sym (k.marks.its holder its_size top asked)) ∙ ap (λ (x : Moment). holder_of l.number holder x.state.table.holders) (sym is) ∙ held in
-        on h (is_holding l.number k.holder (moment_after next k.mid).state.table.holders h there) ∙ sym (k.room_is Nothing)
+        held_first r w t l first e later in_it k h (subst (λ x. holder_of l.number x (moment_after m (l.line.part.earlier ++ first)).state.table.holders ≡ Some h) (k.marks.its holder its_size top asked) held)
 
     abbrev Shown : Type 0
     Shown = Shows m l.number (record { before = l.line.part.earlier; events = l.line.shown.front }) l.line.file t.statement t.outcome l.line.shown.new
@@ -226,8 +233,9 @@ module _ (run : Run) (m : Moment) (end : State) (fits : FitsScript run.script) (
       refused_so x last more split none own asked stop (inl (why, is)) = absurd (new.unrefused why is)
       refused_so x last more split none own asked stop (inr (why, is)) = absurd (unrefused x last more why split none own asked stop is)
 
-      by_end : (x : List Event) (last : Event) (more : List Event) → a.later ≡ x ++ last ∷ more → made_by a.line.number x ≡ [] → last.caller ≡ a.line.number → last.ask.call ≡ Release new.marks.holder → new.event.ask.stop ≡ None → (o : Outcome) → a.t.outcome ≡ o → MarkEnd new.event.reply last.reply o → Made
+      by_end : (x : List Event) (last : Event) (more : List Event) → a.later ≡ x ++ last ∷ more → made_by a.line.number x ≡ [] → last.caller ≡ a.line.number → last.ask.call ≡ Release new.marks.holder → new.event.ask.stop ≡ None → (o : Outcome) → a.t.outcome ≡ o → MarkEnd new.event.ask.call new.event.reply last.reply o → Made
       by_end x last more split none own asked stop (line.Truncated stamp) says_so ends = told_so stamp says_so ends
+      by_end x last more split none own asked stop line.Renamed says_so ends = absurd (subst IsMove new.marks.asked ends)
       by_end x last more split none own asked stop (line.Refused because) says_so ends = refused_so x last more split none own asked stop ends
       by_end x last more split none own asked stop line.Fault says_so ends = inr (failed says_so)
       by_end x last more split none own asked stop line.Stopped says_so ends = inr (stopped says_so)
@@ -246,9 +254,9 @@ module _ (run : Run) (m : Moment) (end : State) (fits : FitsScript run.script) (
           its = k.marks.its new.marks.holder u.size new.marks.top new.marks.asked
 
           by : MarkedSo a.line.number new.event k.holder a.later a.line.line.part.e → Made
-          by (halted is) = inr (stopped (a.line.line.says ∙ is))
-          by (let_go x last more split none own asked stop ends) =
-              by_end x last more split none own (asked ∙ ap (λ z. Release z) (sym its)) stop a.t.outcome refl (subst (MarkEnd new.event.reply last.reply) (sym a.line.line.says) ends)
+          by (halted is over) = inr (stopped (a.line.line.says ∙ is))
+          by (let_go x last more split none own asked stop ends over) =
+              by_end x last more split none own (asked ∙ ap (λ z. Release z) (sym its)) stop a.t.outcome refl (subst (MarkEnd new.event.ask.call new.event.reply last.reply) (sym a.line.line.says) ends)
 
       in_place : Made → Of a.t ≡ number
       in_place (inl told) = of_told a.reader a.writing a.t a.line name u.size says u.stamp told ∙ in_held
@@ -257,7 +265,7 @@ module _ (run : Run) (m : Moment) (end : State) (fits : FitsScript run.script) (
     -- a line told of it, or broke off, in whose part it was made
     pub record MadeBy : Type 0 where
       pub its : Its
-      pub truncates : Truncates run (record { namings = []; of = Of }) its.t number u
+      pub truncates : Truncates run (story_of run m end fits sound right) its.t number u
 
     made_by_line : MadeBy
     made_by_line =
@@ -319,8 +327,8 @@ module _ (run : Run) (m : Moment) (end : State) (fits : FitsScript run.script) (
         not_sooner new z.es z.rest z.all (z.stood u at) (omega (arith, z.within, l.ends))
 
     -- it stood at first, or a line made it that began by the end
-    known : HadTrunc m (Of t) u.stamp u.size ⊎ ((s : Told) × Truncates run (record { namings = []; of = Of }) s (Of t) u × (surely_before run t s ≡ false))
-    known = elim (stood_or_new m Z.es sound (lawful_to run m end fits sound right Z.es Z.rest Z.all) (Of t) u.stamp u.size (Z.stood u at)) as (λ _. HadTrunc m (Of t) u.stamp u.size ⊎ ((s : Told) × Truncates run (record { namings = []; of = Of }) s (Of t) u × (surely_before run t s ≡ false))) [
+    known : HadTrunc m (Of t) u.stamp u.size ⊎ ((s : Told) × Truncates run (story_of run m end fits sound right) s (Of t) u × (surely_before run t s ≡ false))
+    known = elim (stood_or_new m Z.es sound (lawful_to run m end fits sound right Z.es Z.rest Z.all) (Of t) u.stamp u.size (Z.stood u at)) as (λ _. HadTrunc m (Of t) u.stamp u.size ⊎ ((s : Told) × Truncates run (story_of run m end fits sound right) s (Of t) u × (surely_before run t s ≡ false))) [
       | inl was ↦ inl was
       | inr new ↦
           let by = made_by_line Z.es Z.rest Z.all (Of t) u new in
@@ -347,7 +355,7 @@ module _ (run : Run) (times : Option (List ℕ)) (mount : Stored) (start end : S
   sound_begins = mounted_sound 0 times mount start run.before mounted tells sound
 
   abbrev Homes : Story
-  Homes = record { namings = []; of = container run Begins end fits sound_begins right }
+  Homes = story_of run Begins end fits sound_begins right
 
   stood_before : (n : ℕ) (u : Trunc) → HadTrunc Begins n u.stamp u.size → Has run.before n (item_of u)
   stood_before n u had =

@@ -34,7 +34,8 @@ use Rattle.headline.specs.Changes.{OpensIn}
 use Rattle.headline_laws.proofs.Statements.Known.{HasEntered}
 use Rattle.headline_laws.proofs.Story.Attributed.{Attributed, attributed}
 use Rattle.headline_laws.proofs.Story.Entered.{entered_once}
-use Rattle.headline_laws.proofs.Story.Lines.{container, entered_room, first_entered}
+use Rattle.headline_laws.proofs.Story.Lines.{container, entered_room, first_entered, made_room}
+use Rattle.headline_laws.proofs.Story.Namings.{story_of}
 use Rattle.headline_laws.proofs.Makers.Back.{mounted_back}
 use Rattle.headline_laws.proofs.Makers.EntryEnds.{EnterEnd, EntryMade, OpensOr, entry_made}
 use Rattle.headline_laws.proofs.Makers.Holds.{IsRefusal}
@@ -116,15 +117,18 @@ module _ (run : Run) (m : Moment) (end : State) (fits : FitsScript run.script) (
 
       -- ---- the container of the line
 
-      front_entered : entered_room N Nothing a.line.line.shown.front ≡ entered_room N Nothing Mine
-      front_entered =
+      abbrev Default : ℕ
+      Default = made_room m N (record { before = P; events = a.line.line.shown.front }) Nothing
+
+      front_entered : (d : ℕ) → entered_room N d a.line.line.shown.front ≡ entered_room N d Mine
+      front_entered d =
           let s = a.line.line.shown in
-          ap (first_entered Nothing) (sym (ap (made_by N) s.split ∙ entries_both N s.front s.rest ∙ ap (λ z. made_by N s.front ++ z) s.none_behind ∙ append-nil (made_by N s.front)))
+          ap (first_entered d) (sym (ap (made_by N) s.split ∙ entries_both N s.front s.rest ∙ ap (λ z. made_by N s.front ++ z) s.none_behind ∙ append-nil (made_by N s.front)))
 
       of_broken : BrokeOff a.t.outcome → Of a.t ≡ number
       of_broken broke =
           let s = a.line.line.shown in
-          a.line.line.here ∙ broken_room m N P s.front Nothing a.line.line.file s.new s.new_writer name a.t.statement a.t.outcome says broke s.shows ∙ front_entered ∙ k.room_is Nothing
+          a.line.line.here ∙ broken_room m N P s.front Nothing a.line.line.file s.new s.new_writer name a.t.statement a.t.outcome says broke s.shows ∙ front_entered Default ∙ k.room_is Default
 
       of_number : Made → Of a.t ≡ number
       of_number (inr broke) = of_broken broke
@@ -154,13 +158,13 @@ module _ (run : Run) (m : Moment) (end : State) (fits : FitsScript run.script) (
           by (reply.Entered v) is ends = opened_there v is (new.its v is)
           by r is ends = not_opened r ends
 
-      opens_in : OpensIn run (record { namings = []; of = Of }) a.t number host w
+      opens_in : OpensIn run (story_of run m end fits sound right) a.t number host w
       opens_in = record { is_line = a.is_line; of = of_number made; by = sym a.its_host ∙ sym k.its_host; asked = (name, says); made = made }
 
     -- the line that made it, in its part
     pub record EnteredBy : Type 0 where
       pub its : Its
-      pub opens : OpensIn run (record { namings = []; of = Of }) its.t number host w
+      pub opens : OpensIn run (story_of run m end fits sound right) its.t number host w
 
     pub entered_by_line : EnteredBy
     entered_by_line =
@@ -184,7 +188,7 @@ module _ (run : Run) (times : Option (List ℕ)) (mount : Stored) (start end : S
   sound_begins = mounted_sound 0 times mount start run.before mounted tells sound
 
   abbrev Homes : Story
-  Homes = record { namings = []; of = container run Begins end fits sound_begins right }
+  Homes = story_of run Begins end fits sound_begins right
 
   pub entry_before : (n host id : ℕ) → HadItem Begins n (OpenHost host id) → Has run.before n (OpenHost host id)
   entry_before n host id had =

@@ -47,7 +47,8 @@ use Rattle.headline_laws.proofs.Contents.Written.{own_stay}
 use Rattle.headline_laws.proofs.Statements.Known.{HasEntered}
 use Rattle.headline_laws.proofs.Story.Attributed.{Attributed, attributed}
 use Rattle.headline_laws.proofs.Story.Entered.{entered_once}
-use Rattle.headline_laws.proofs.Story.Lines.{container, entered_room, first_entered, room_of}
+use Rattle.headline_laws.proofs.Story.Lines.{container, entered_room, first_entered, made_room, room_of}
+use Rattle.headline_laws.proofs.Story.Namings.{story_of}
 use Rattle.headline_laws.proofs.Makers.Back.{mounted_back}
 use Rattle.headline_laws.proofs.Makers.Entering.{EntersAndMakes, enters_and_makes, open_free}
 use Rattle.headline_laws.proofs.Makers.Holds.{IsRefusal}
@@ -64,7 +65,7 @@ module _ (m : Moment) (n : ℕ) (before front : List Event) (nothing : ℕ) (old
   abbrev There : Stretch
   There = record { before = before; events = front }
 
-  pub broken_room : (s : Statement) (o : Outcome) → s ≡ Open name → BrokeOff o → (shows : Shows m n There old s o new) → room_of m n There nothing old new w s o shows ≡ entered_room n nothing front
+  pub broken_room : (s : Statement) (o : Outcome) → s ≡ Open name → BrokeOff o → (shows : Shows m n There old s o new) → room_of m n There nothing old new w s o shows ≡ entered_room n (made_room m n There nothing) front
   broken_room (Open name2) line.Fault is broke shows = refl
   broken_room (Open name2) line.Stopped is broke shows = refl
   broken_room s o is (failed f) shows = absurd (cc)
@@ -224,10 +225,13 @@ module _ (run : Run) (m : Moment) (end : State) (fits : FitsScript run.script) (
 
       -- ---- the container of the line
 
-      front_entered : entered_room N Nothing a.line.line.shown.front ≡ entered_room N Nothing Mine
-      front_entered =
+      abbrev Default : ℕ
+      Default = made_room m N (record { before = P; events = a.line.line.shown.front }) Nothing
+
+      front_entered : (d : ℕ) → entered_room N d a.line.line.shown.front ≡ entered_room N d Mine
+      front_entered d =
           let s = a.line.line.shown in
-          ap (first_entered Nothing) (sym (ap (made_by N) s.split ∙ entries_both N s.front s.rest ∙ ap (λ z. made_by N s.front ++ z) s.none_behind ∙ append-nil (made_by N s.front)))
+          ap (first_entered d) (sym (ap (made_by N) s.split ∙ entries_both N s.front s.rest ∙ ap (λ z. made_by N s.front ++ z) s.none_behind ∙ append-nil (made_by N s.front)))
 
       has_entered : HasEntered N right.history (record { room = k.room; host = H; writer = k.writer })
       has_entered = record {
@@ -244,16 +248,16 @@ module _ (run : Run) (m : Moment) (end : State) (fits : FitsScript run.script) (
       of_number : Made → Of a.t ≡ number
       of_number (inr broke) =
           let s = a.line.line.shown in
-          a.line.line.here ∙ broken_room m N P s.front Nothing a.line.line.file s.new s.new_writer name a.t.statement a.t.outcome says broke s.shows ∙ front_entered ∙ k.room_is Nothing ∙ sym in_place.room
+          a.line.line.here ∙ broken_room m N P s.front Nothing a.line.line.file s.new s.new_writer name a.t.statement a.t.outcome says broke s.shows ∙ front_entered Default ∙ k.room_is Default ∙ sym in_place.room
       of_number (inl told) =
           let x = opened_line run m end fits sound right a.t w (record { is_line = a.is_line; says = told }) in
           let one = entered_once m.state right.history x.number N x.dropping (record { room = k.room; host = H; writer = k.writer }) right.leads.lawful x.entered has_entered (x.its_id ∙ its) in
           x.in_room ∙ one.room ∙ sym in_place.room
 
-      opens_in : OpensIn run (record { namings = []; of = Of }) a.t number host w
+      opens_in : OpensIn run (story_of run m end fits sound right) a.t number host w
       opens_in = record { is_line = a.is_line; of = of_number made; by = sym a.its_host ∙ sym in_place.its_host; asked = (name, says); made = made }
 
-    pub opened_by_line : (o : Told) × OpensIn run (record { namings = []; of = Of }) o number host w
+    pub opened_by_line : (o : Told) × OpensIn run (story_of run m end fits sound right) o number host w
     opened_by_line =
         let a : Its = attributed run m end fits sound right new.pre new.event (new.post ++ rest) whole loud in
         let p = a.line.line.part in
@@ -276,7 +280,7 @@ module _ (run : Run) (times : Option (List ℕ)) (mount : Stored) (start end : S
   sound_begins = mounted_sound 0 times mount start run.before mounted tells sound
 
   abbrev Homes : Story
-  Homes = record { namings = []; of = container run Begins end fits sound_begins right }
+  Homes = story_of run Begins end fits sound_begins right
 
   stood_before : (n host id : ℕ) → HadItem Begins n (Index host id) → Has run.before n (Index host id)
   stood_before n host id had =

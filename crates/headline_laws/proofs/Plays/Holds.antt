@@ -8,3 +8,4 @@ pub mod Makings
 pub mod Renamed
 pub mod Tops
 pub mod Truncated
+pub mod Viewed

@@ -1,8 +1,7 @@
 -- What is refused as busy: the writer that it tells has the container open. Its entry is of the tree before, and no recovery took it out, or a line opened it
 -- and none closed it.
-use Rattle.std.proofs.Common.{◌≡◌, ◌≤◌, ◌+◌, inl, inr, ℕ, Bool, true, false, nat_eq, List, ◌∷◌, ◌++◌, length, Option, Some, refl, sym, ap, ◌∙◌, subst, arith, append_assoc, length-append}
+use Rattle.std.proofs.Common.{◌≡◌, ◌+◌, inl, inr, ℕ, Bool, true, false, List, ◌∷◌, ◌++◌, length, Option, Some, sym, ap, ◌∙◌, subst, arith, append_assoc, length-append}
 use Rattle.std.specs.List.{Any}
-use Rattle.plain_file.proofs.Facts.{Among}
 use Rattle.plfs_types.specs.declared.entries.WriterCount.{WriterCount}
 use Rattle.container_layout.specs.declared.items.Item.TheVariants.{OpenHost}
 use Rattle.store_api.specs.Acts.{Stored}
@@ -11,8 +10,8 @@ use Rattle.mount_model.specs.Mounting.{IsMounted}
 use Rattle.mount_model.specs.State.{State}
 use Rattle.mount_sound.specs.Owed.{IsLawful}
 use Rattle.mount_sound.specs.Sound.{IsSoundTree}
-use Rattle.reader_laws.specs.Moments.{Dropping, HadItem, IsSoundAt, Moment, moment_after, next_moment}
-use Rattle.reader_laws.proofs.Gathered.Facts.{any_found, is_among, legal_first, sound_after}
+use Rattle.reader_laws.specs.Moments.{HadItem, IsSoundAt, Moment, moment_after}
+use Rattle.reader_laws.proofs.Gathered.Facts.{any_found, legal_first}
 use Rattle.script_lang.specs.Ranges.{FitsScript}
 use Rattle.script_lang.specs.declared.line.Outcome.{Outcome}
 use Rattle.script_lang.specs.declared.line.Outcome.TheVariants as line
@@ -25,28 +24,19 @@ use Rattle.headline_laws.specs.OneWriter.{OneWriter}
 use Rattle.headline_laws.specs.Opening.{Stretch}
 use Rattle.headline_laws.specs.Refusing.{FindsOpen}
 use Rattle.headline_laws.specs.Showing.{Shows}
-use Rattle.headline.specs.Run.{IsLine, Run, Says, Told, own, surely_before, told}
+use Rattle.headline.specs.Run.{IsLine, Run, Says, Told, surely_before}
 use Rattle.headline.specs.Names.{Story}
 use Rattle.headline.specs.Files.{reader_at}
-use Rattle.headline.specs.Changes.{Holds, Writing, writer_at, writing_at}
+use Rattle.headline.specs.Changes.{Holds, Writing, writing_at}
 use Rattle.headline.specs.Causes.{IsOpenIn, alive, stood}
 use Rattle.headline.specs.Reasons.{IsReasonOf}
-use Rattle.headline_laws.proofs.Contents.AtLine.{AtLine, LiesBehind, lies_behind}
 use Rattle.headline_laws.proofs.Contents.Counted.{homes}
 use Rattle.headline_laws.proofs.Contents.OpenedWriter.{First, Home, sound_first}
-use Rattle.headline_laws.proofs.Contents.OpenUntil.{drawn_rises}
-use Rattle.headline_laws.proofs.Landed.Gone.{HasGone}
-use Rattle.headline_laws.proofs.Makers.KnownEntries.{EnteredBy, entered_by_line, entry_before}
+use Rattle.headline_laws.proofs.Makers.KnownEntries.{entry_before}
 use Rattle.headline_laws.proofs.Makers.NewEntries.{NewEntry, stood_or_new}
-use Rattle.headline_laws.proofs.Makers.OneEntry.{one_entering}
-use Rattle.headline_laws.proofs.OrderlyLines.Answering.{among_filter}
-use Rattle.headline_laws.proofs.Statements.Known.{HasEntered, entered_more}
-use Rattle.headline_laws.proofs.Story.Attributed.{ends_before}
-use Rattle.headline_laws.proofs.Story.Lines.{AnyLine, TwoHere, among_there, line_here, room_of, two_here}
-use Rattle.headline_laws.proofs.Trees.Away.{IsAway}
-use Rattle.headline_laws.proofs.Trees.Departed.{gone_here, its}
-use Rattle.headline_laws.proofs.Trees.OpenListed.{entry_drawn}
-use Rattle.headline_laws.proofs.Trees.Recovered.{away_not, away_rises, taken_gone}
+use Rattle.headline_laws.proofs.Makers.AliveThen.{is_alive}
+use Rattle.headline_laws.proofs.Story.Lines.{AnyLine, TwoHere, line_here, room_of, two_here}
+use Rattle.headline_laws.proofs.Trees.Recovered.{StoodIn, taken_gone}
 
 -- ---- the line
 
@@ -98,10 +88,6 @@ busy_holds (say.Trunc name size) host id may = tt
 busy_holds (say.Rename name to) host id may = tt
 busy_holds s host id may = absurd may
 
-not_before : (b : Bool) → {c : Bool} → c ≡ b → (c ≡ true → ⊥) → c ≡ false
-not_before true is never = absurd (never is)
-not_before false is never = is
-
 module _ (run : Run) (times : Option (List ℕ)) (mount : Stored) (start end : State) (fits : FitsScript run.script) (mounted : IsMounted 0 times mount start) (tells : mount.tree ≡ Some run.before) (sound : IsSoundTree run.before)
     (right : IsRight run.script start run.lines end) (left : end.store.tree ≡ Some run.after) where
   abbrev Begins : Moment
@@ -121,20 +107,15 @@ module _ (run : Run) (times : Option (List ℕ)) (mount : Stored) (start end : S
     LineOf r w s = AnyLine run Begins end fits sound_begins right r w s
 
     -- within its part the entry stood, however the lines of its actor are split
-    record StoodIn (r : Option Told) (w : Writing) (l : LineOf r w t) : Type 0 where
-      pub es : List Event
-      pub rest : List Event
-      pub all : right.history ≡ es ++ rest
-      pub behind : length l.line.part.earlier ≤ length es
-      pub within : length es ≤ length l.line.part.earlier + length l.line.part.mine
-      pub entry : HadItem (moment_after Begins es) (HomeOf t) (OpenHost host id)
+    abbrev Stood_so : (r : Option Told) (w : Writing) → LineOf r w t → Type 0
+    Stood_so r w l = StoodIn run times mount start end fits mounted tells sound right left t host id r w l
 
-    stood_in : (r : Option Told) (w : Writing) (l : LineOf r w t) → StoodIn r w l
+    stood_in : (r : Option Told) (w : Writing) (l : LineOf r w t) → Stood_so r w l
     stood_in r w l =
         by (subst (EntryStood Begins l.number l.line.part.earlier l.line.shown.front host id) (sym l.line.here)
         (busy_there Begins l.number l.line.part.earlier l.line.shown.front (length run.after.rooms) l.line.file l.line.shown.new l.line.shown.new_writer host id t.statement t.outcome may says.says l.line.shown.shows))
       where
-        by : EntryStood Begins l.number l.line.part.earlier l.line.shown.front host id (HomeOf t) → StoodIn r w l
+        by : EntryStood Begins l.number l.line.part.earlier l.line.shown.front host id (HomeOf t) → Stood_so r w l
         by k =
             let p = l.line.part in
             let h = l.line.shown in
@@ -155,13 +136,10 @@ module _ (run : Run) (times : Option (List ℕ)) (mount : Stored) (start end : S
     lawful_to : (x xs : List Event) → right.history ≡ x ++ xs → IsLawful Begins.state x
     lawful_to x xs is = legal_first Begins x xs (subst (IsLawful Begins.state) is right.leads.lawful)
 
-    sound_to : (x xs : List Event) → right.history ≡ x ++ xs → IsSoundAt (moment_after Begins x)
-    sound_to x xs is = sound_after Begins x (lawful_to x xs is) sound_begins
-
     L : LineOf (reader_at run t) (writing_at run t) t
     L = line_here run Begins end fits sound_begins right t says.is_line
 
-    a : StoodIn (reader_at run t) (writing_at run t) L
+    a : Stood_so (reader_at run t) (writing_at run t) L
     a = stood_in (reader_at run t) (writing_at run t) L
 
     -- ---- an entry of the tree before
@@ -178,56 +156,12 @@ module _ (run : Run) (times : Option (List ℕ)) (mount : Stored) (start end : S
 
     -- ---- an entry that a line made
 
-    module _ (new : NewEntry Begins a.es (HomeOf t) host id) where
-      whole : right.history ≡ new.pre ++ new.event ∷ (new.post ++ a.rest)
-      whole = a.all ∙ ap (λ z. z ++ a.rest) new.is ∙ append_assoc new.pre (new.event ∷ new.post) a.rest
-
-      by : EnteredBy run Begins end fits sound_begins right a.es a.rest a.all (HomeOf t) host id new
-      by = entered_by_line run Begins end fits sound_begins right a.es a.rest a.all (HomeOf t) host id new
-
-      -- it didn't stand before it was made
-      not_sooner : (x xs : List Event) → right.history ≡ x ++ xs → HadItem (moment_after Begins x) (HomeOf t) (OpenHost host id) → length x ≤ length new.pre → ⊥
-      not_sooner x xs is had short =
-          let drawn = entry_drawn (moment_after Begins x) (sound_to x xs is) (HomeOf t) host id had in
-          let rise = drawn_rises run times mount start end fits mounted tells sound right left x new.pre xs (new.event ∷ (new.post ++ a.rest)) is whole short in
-          let next = new.makes.its_id in
-          omega (arith, drawn, rise, next)
-
-      began : surely_before run t by.its.t ≡ true → ⊥
-      began sooner =
-          let l = ends_before run Begins end fits sound_begins right new.pre new.event by.its t says.is_line free sooner in
-          let k = stood_in l.reader l.writing l.line in
-          let inside = k.within in
-          let ends = l.ends in
-          not_sooner k.es k.rest k.all k.entry (omega (arith, inside, ends))
-
-      -- no line before closed it
-      not_closed : (s : Told) (count : ℕ) → IsLine run s → surely_before run s t ≡ true → s.outcome ≡ line.Closed count → writer_at run s ≡ Some id → ⊥
-      not_closed s count is_line sooner said has =
-          let says_so : Says run s (line.Closed count) = record { is_line = is_line; says = said } in
-          let i : AtLine run times mount start end fits mounted tells sound right left s id = its run times mount start end fits mounted tells sound right left s count id says_so has in
-          let g : HasGone (moment_after Begins (i.p.earlier ++ i.p.mine)) i.d = gone_here run times mount start end fits mounted tells sound right left s count id says_so has in
-          let b : LiesBehind run times mount start end fits mounted tells sound right left s id i t = lies_behind run times mount start end fits mounted tells sound right left s id i t says.is_line free sooner in
-          let k = stood_in b.reader b.writing b.its_line in
-          let opener : Among i.o (own s.actor (told run)) = subst (Among i.o) (sym i.all_is) (among_there i.o i.pre (i.between ++ s ∷ i.rest)) in
-          let opened_so : Says run i.o (line.Opened id) = record { is_line = is_among (told run) i.o (among_filter (λ (x : Told). nat_eq x.actor s.actor) (told run) i.o opener); says = i.opens } in
-          let id_is : i.d.writer ≡ id = ap (λ (d : Dropping). d.writer) (i.home_is i.o opened_so) in
-          let entered : HasEntered i.c.parts.number right.history i.d = subst (λ es. HasEntered i.c.parts.number es i.d) (sym i.p.split) (entered_more i.c.parts.number i.p.earlier (i.p.mine ++ i.p.later) i.d i.entered) in
-          let one = one_entering Begins sound_begins right.history right.leads.lawful i.c.parts.number i.d entered new.pre new.event (new.post ++ a.rest) whole (HomeOf t) host
-          (record { most = new.makes.most; asked = new.makes.asked; its_id = new.makes.its_id ∙ sym id_is }) (subst (λ w. HadItem (next_moment (moment_after Begins new.pre) new.event) (HomeOf t) (OpenHost host w)) (sym id_is) new.had) in
-          let far = b.behind in
-          let late = k.behind in
-          let long = length-append i.p.earlier i.p.mine in
-          let away : IsAway (moment_after Begins k.es) i.d = away_rises run times mount start end fits mounted tells sound right left (i.p.earlier ++ i.p.mine) i.p.later k.es k.rest (i.p.split ∙ sym (append_assoc i.p.earlier i.p.mine i.p.later)) k.all (omega (arith, far, late, long)) i.d g.out.named g.away in
-          away_not run times mount start end fits mounted tells sound right left (moment_after Begins k.es) i.d away
-          (subst (λ r. HadItem (moment_after Begins k.es) r (OpenHost i.d.host i.d.writer)) (sym one.0) (subst (λ h. HadItem (moment_after Begins k.es) (HomeOf t) (OpenHost h i.d.writer)) (sym one.1) (subst (λ w. HadItem (moment_after Begins k.es) (HomeOf t) (OpenHost host w)) (sym id_is) k.entry)))
-
-      is_alive : IsOpenIn run Homes t host id
-      is_alive = alive (record { o = by.its.t; begun = not_before (surely_before run t by.its.t) refl began; opens = by.opens; unclosed = not_closed })
+    is_alive_then : NewEntry Begins a.es (HomeOf t) host id → IsOpenIn run Homes t host id
+    is_alive_then new = alive (is_alive run times mount start end fits mounted tells sound right left free t id says.is_line a.es a.rest a.all host new (λ r w l. (host, stood_in r w l)))
 
     -- the law of this file
     pub is_open_in : IsOpenIn run Homes t host id
     is_open_in = elim (stood_or_new Begins a.es sound_begins (lawful_to a.es a.rest a.all) (HomeOf t) host id a.entry) as (λ _. IsOpenIn run Homes t host id) [
       | inl was ↦ stood (entry_before run times mount start end fits mounted tells sound right left (HomeOf t) host id was) not_taken
-      | inr new ↦ is_alive new
+      | inr new ↦ is_alive_then new
     ]

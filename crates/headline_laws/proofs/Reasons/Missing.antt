@@ -54,26 +54,40 @@ module _ (run : Run) (times : Option (List ℕ)) (mount : Stored) (start end : S
   Line r w t = AnyLine run Begins end fits sound_begins right r w t
 
   -- no container had the name when it was sought
-  record FreeAt {r : Option Told} {w : Writing} {t : Told} (l : Line r w t) (name : Name) : Type 0 where
+  pub record FreeAt {r : Option Told} {w : Writing} {t : Told} (l : Line r w t) (name : Name) : Type 0 where
     pub upto : List Event
     pub rest : List Event
     pub split : right.history ≡ (l.line.part.earlier ++ upto) ++ rest
+    pub inside : (more : List Event) × (l.line.part.mine ≡ upto ++ more)
     pub none : IsFreeName (moment_after Begins (l.line.part.earlier ++ upto)) name
 
-  truncates_free : (r : Option Told) (w : Writing) (t : Told) (l : Line r w t) (name : Name) (size : ℕ) → t.outcome ≡ line.Refused NoFile → t.statement ≡ Trunc name size → FreeAt l name
-  truncates_free r w t l name size says asked =
+  -- by what the line shows
+  shown_free : (r : Option Told) (w : Writing) (t : Told) (l : Line r w t) (name : Name) → FindsNone Begins l.number (record { before = l.line.part.earlier; events = l.line.shown.front }) name → FreeAt l name
+  shown_free r w t l name f =
       let p = l.line.part in
       let h = l.line.shown in
-      let shows : Shows Begins l.number (record { before = p.earlier; events = h.front }) l.line.file (Trunc name size) (line.Refused NoFile) h.new =
-      subst (λ s. Shows Begins l.number (record { before = p.earlier; events = h.front }) l.line.file s (line.Refused NoFile) h.new) asked (subst (λ o. Shows Begins l.number (record { before = p.earlier; events = h.front }) l.line.file t.statement o h.new) says h.shows) in
-      let f : FindsNone Begins l.number (record { before = p.earlier; events = h.front }) name = shows.1 in
+      let mine : p.mine ≡ f.earlier ++ (f.finding ∷ (f.later ++ h.rest)) = h.split ∙ ap (λ z. z ++ h.rest) f.split ∙ append_assoc f.earlier (f.finding ∷ f.later) h.rest in
       record {
         upto = f.earlier;
         rest = f.finding ∷ (f.later ++ (h.rest ++ p.later));
         split = p.split ∙ ap (λ z. p.earlier ++ (z ++ p.later)) (h.split ∙ ap (λ z. z ++ h.rest) f.split)
             ∙ ap (λ z. p.earlier ++ z) (append_assoc (f.earlier ++ f.finding ∷ f.later) h.rest p.later ∙ append_assoc f.earlier (f.finding ∷ f.later) (h.rest ++ p.later)) ∙ sym (append_assoc p.earlier f.earlier (f.finding ∷ (f.later ++ (h.rest ++ p.later))));
+        inside = (f.finding ∷ (f.later ++ h.rest), mine);
         none = f.free;
       }
+
+  -- what a line shows, where its statement and its outcome are these
+  shown_as : (r : Option Told) (w : Writing) (t : Told) (l : Line r w t) (s : Statement) → t.outcome ≡ line.Refused NoFile → t.statement ≡ s → Shows Begins l.number (record { before = l.line.part.earlier; events = l.line.shown.front }) l.line.file s (line.Refused NoFile) l.line.shown.new
+  shown_as r w t l s says asked =
+      let p = l.line.part in
+      let h = l.line.shown in
+      subst (λ x. Shows Begins l.number (record { before = p.earlier; events = h.front }) l.line.file x (line.Refused NoFile) h.new) asked (subst (λ o. Shows Begins l.number (record { before = p.earlier; events = h.front }) l.line.file t.statement o h.new) says h.shows)
+
+  truncates_free : (r : Option Told) (w : Writing) (t : Told) (l : Line r w t) (name : Name) (size : ℕ) → t.outcome ≡ line.Refused NoFile → t.statement ≡ Trunc name size → FreeAt l name
+  truncates_free r w t l name size says asked = shown_free r w t l name (shown_as r w t l (Trunc name size) says asked).1
+
+  renames_free : (r : Option Told) (w : Writing) (t : Told) (l : Line r w t) (name to : Name) → t.outcome ≡ line.Refused NoFile → t.statement ≡ Rename name to → FreeAt l name
+  renames_free r w t l name to says asked = shown_free r w t l name (shown_as r w t l (Rename name to) says asked).1
 
   module _ (r : Option Told) (w : Writing) (t : Told) (l : Line r w t) (name : Name) (says : t.outcome ≡ line.Refused NoFile) where
     abbrev P : PartOf l.number right.history right.calls.blocks l.line.kept t.phase t.statement
@@ -110,11 +124,12 @@ module _ (run : Run) (times : Option (List ℕ)) (mount : Stored) (start end : S
           rest = f.rest ++ P.later;
           split = P.split ∙ ap (λ z. P.earlier ++ (z ++ P.later)) (g.all ∙ ap (λ z. g.first ++ z) f.split ∙ sym (append_assoc g.first f.upto f.rest)) ∙ ap (λ z. P.earlier ++ z) (append_assoc (g.first ++ f.upto) f.rest P.later)
               ∙ sym (append_assoc P.earlier (g.first ++ f.upto) (f.rest ++ P.later));
+          inside = (f.rest, g.all ∙ ap (λ z. g.first ++ z) f.split ∙ sym (append_assoc g.first f.upto f.rest));
           none = subst (λ (x : Moment). IsFreeName x name) (sym (moment-append Begins P.earlier (g.first ++ f.upto) ∙ moment-append Now g.first f.upto)) f.none;
         }
 
-    free_at : RenamesNone run → IsLine run t → name_of t.statement ≡ Some name → FreeAt l name
-    free_at none is_line asked = by t.statement refl asked kind
+    pub free_at : IsLine run t → name_of t.statement ≡ Some name → FreeAt l name
+    free_at is_line asked = by t.statement refl asked kind
       where
         kind : IsReasonOf t.statement NoFile
         kind = (reasons_told run Begins end fits sound_begins right).kinds t NoFile (record { is_line = is_line; says = says })
@@ -128,7 +143,7 @@ module _ (run : Run) (times : Option (List ℕ)) (mount : Stored) (start end : S
         by (Flatten n) is same kind = free_so (Flatten name) (is ∙ ap (λ x. Flatten x) (one n same)) (λ left stop at mine s lawful comes. flatten_missing l.number left name P.spent P.e told stop at mine s lawful comes)
         by (Recover n) is same kind = free_so (Recover name) (is ∙ ap (λ x. Recover x) (one n same)) (λ left stop at mine s lawful comes. recover_missing l.number left name P.spent P.e told stop at mine s lawful comes)
         by (Ropen n workers) is same kind = free_so (Ropen name workers) (is ∙ ap (λ x. Ropen x workers) (one n same)) (λ left stop at mine s lawful comes. opens_missing l.number left name P.spent P.e told stop at mine s lawful workers comes)
-        by (Rename n to) is same kind = absurd (none t n to is_line is)
+        by (Rename n to) is same kind = renames_free r w t l name to says (is ∙ ap (λ x. Rename x to) (one n same))
         by (Open n) is same kind = absurd (subst (λ x. IsReasonOf x NoFile) is kind)
         by s is same kind = absurd (let clash : None ≡ Some name = same in cc)
 
@@ -139,7 +154,7 @@ module _ (run : Run) (times : Option (List ℕ)) (mount : Stored) (start end : S
   stood_not : RenamesNone run → (t : Told) (name : Name) → Says run t (line.Refused NoFile) → name_of t.statement ≡ Some name → IsAmong name (names_in run.before) → ⊥
   stood_not none t name says asked at =
       let l = line_here run Begins end fits sound_begins right t says.is_line in
-      let z = free_at (reader_at run t) (writing_at run t) t l name says.says none says.is_line asked in
+      let z = free_at (reader_at run t) (writing_at run t) t l name says.says says.is_line asked in
       let f = name_of_room run.before.rooms name (among (names_in run.before) name at) in
       has_none l name z f.number
       (stays_to run times mount start end fits mounted tells sound right left free none [] (l.line.part.earlier ++ z.upto) z.rest z.split f.number name (mounting_names times mount start run.before f.number name mounted tells f.room f.there f.is))
@@ -153,7 +168,7 @@ module _ (run : Run) (times : Option (List ℕ)) (mount : Stored) (start end : S
       let k : ℕ = room_of Begins two.one.number (record { before = p.earlier; events = h.front }) (length run.after.rooms) l.file h.new h.new_writer s.statement s.outcome h.shows in
       let a : NamedAt Begins p.earlier h.front name k = named_at Begins two.one.number p.earlier h.front (length run.after.rooms) name l.file h.new l.writer h.new_writer s.statement s.outcome speaks h.shows h.writes in
       let g = before_it run Begins end fits sound_begins right s t two a.upto a.later a.split in
-      let z = free_at two.reader_then two.writing_then t two.other name says.says none says.is_line asked in
+      let z = free_at two.reader_then two.writing_then t two.other name says.says says.is_line asked in
       let c : List Event = p.earlier ++ a.upto in
       let there : two.other.line.part.earlier ++ z.upto ≡ c ++ (g.0 ++ z.upto) = ap (λ es. es ++ z.upto) g.1 ∙ append_assoc c g.0 z.upto in
       let split : right.history ≡ c ++ ((g.0 ++ z.upto) ++ z.rest) = z.split ∙ ap (λ es. es ++ z.rest) there ∙ append_assoc c (g.0 ++ z.upto) z.rest in

@@ -56,9 +56,9 @@ IsHeld refusal.Held = Unit {0}
 IsHeld other = ⊥
 
 -- a refusal of a call on one writer
-abbrev OrAlive : Refusal → Type 0
-OrAlive refusal.Alive = Unit {0}
-OrAlive why = IsHeld why
+abbrev OrAlive : (Refusal → Type 0) → Refusal → Type 0
+OrAlive fine refusal.Alive = Unit {0}
+OrAlive fine why = fine why
 
 -- ---- what the calls are refused for
 
@@ -74,12 +74,12 @@ module _ (m : Moment) (sound : IsSoundAt m) (room : ℕ) (had : IsContainerAt m 
   marked_not : (room == m.state.marks) ≡ true → ⊥
   marked_not is = no_check m sound room had refusal.NoRoom (ap (λ b. if b then Some refusal.NoRoom else None) is)
 
-  mend_so : (row : Option Row) (why : Refusal) → or_reason (if room == m.state.marks then Some refusal.NoRoom else None) (live_reason row) ≡ Some why → OrAlive why
-  mend_so row why is = by (room == m.state.marks) refl is
+  mend_so : (fine : Refusal → Type 0) (row : Option Row) (why : Refusal) → or_reason (if room == m.state.marks then Some refusal.NoRoom else None) (live_reason row) ≡ Some why → OrAlive fine why
+  mend_so fine row why is = by (room == m.state.marks) refl is
     where
-      by : (b : Bool) → (room == m.state.marks) ≡ b → or_reason (if b then Some refusal.NoRoom else None) (live_reason row) ≡ Some why → OrAlive why
+      by : (b : Bool) → (room == m.state.marks) ≡ b → or_reason (if b then Some refusal.NoRoom else None) (live_reason row) ≡ Some why → OrAlive fine why
       by true marks check = absurd (marked_not marks)
-      by false marks check = subst OrAlive (sym (alive_so row why check)) tt
+      by false marks check = subst (OrAlive fine) (sym (alive_so row why check)) tt
 
   shut_so : (held : Bool) (why : Refusal) → or_reason (if room == m.state.marks then Some refusal.NoRoom else None) (if held then Some refusal.Held else None) ≡ Some why → IsHeld why
   shut_so held why is = by (room == m.state.marks) held refl is
@@ -104,15 +104,16 @@ room_more (Err (stuck.Damaged folder file place)) good = tt
 room_more (Err (stuck.Refused refusal.Held)) good = tt
 room_more (Err (stuck.Refused other)) good = absurd good
 
-module _ (n : ℕ) where
-  abbrev Fine : Reply → Type 0
-  Fine rep = (why : Refusal) → rep ≡ reply.Refused why → IsHeld why
+-- a program that recovers writers is refused for these reasons alone
+module _ (n : ℕ) (may : Refusal → Type 0) where
+  abbrev pub Fine : Reply → Type 0
+  Fine rep = (why : Refusal) → rep ≡ reply.Refused why → may why
 
   abbrev FineOrAlive : Reply → Type 0
-  FineOrAlive rep = (why : Refusal) → rep ≡ reply.Refused why → OrAlive why
+  FineOrAlive rep = (why : Refusal) → rep ≡ reply.Refused why → OrAlive may why
 
-  look_fine : (room : ℕ) (look : LookAt) (m next : Moment) (rep : Reply) → Stepped n m (Look room look) rep next → IsContainerAt m room → Fine rep
-  look_fine room look m next rep s had why is = elim (s.reason why is) as (λ _. IsHeld why) [
+  pub look_fine : (room : ℕ) (look : LookAt) (m next : Moment) (rep : Reply) → Stepped n m (Look room look) rep next → IsContainerAt m room → Fine rep
+  look_fine room look m next rep s had why is = elim (s.reason why is) as (λ _. may why) [
     | inl check ↦ absurd (no_check m s.sound room had why check)
     | inr none ↦ absurd (has_room m s.sound room had (none.1 s.sound.shape.tree s.sound.shape.told))
   ]
@@ -121,23 +122,23 @@ module _ (n : ℕ) where
   sync_fine room host w is_log m next rep s had why is = absurd (no_check m s.sound room had why (s.reason why is))
 
   inspect_fine : (w : ℕ) (m next : Moment) (rep : Reply) → Stepped n m (Inspect w) rep next → FineOrAlive rep
-  inspect_fine w m next rep s why is = subst OrAlive (sym (alive_so (row_of w m.state.table.writers) why (s.reason why is))) tt
+  inspect_fine w m next rep s why is = subst (OrAlive may) (sym (alive_so (row_of w m.state.table.writers) why (s.reason why is))) tt
 
   bury_fine : (room host w : ℕ) (m next : Moment) (rep : Reply) → Stepped n m (Bury room host w) rep next → IsContainerAt m room → FineOrAlive rep
-  bury_fine room host w m next rep s had why is = elim (s.reason why is) as (λ _. OrAlive why) [
-    | inl check ↦ mend_so m s.sound room had (row_of w m.state.table.writers) why check
+  bury_fine room host w m next rep s had why is = elim (s.reason why is) as (λ _. OrAlive may why) [
+    | inl check ↦ mend_so m s.sound room had may (row_of w m.state.table.writers) why check
     | inr none ↦ absurd (has_room m s.sound room had (none.1 s.sound.shape.tree s.sound.shape.told))
   ]
 
   -- ---- the calls for one writer
 
   abbrev Fated : Result Fate Stuck → Type 0
-  Fated = EndsSo (λ (fate : Fate). Unit {0}) IsHeld
+  Fated = EndsSo (λ (fate : Fate). Unit {0}) may
 
-  abbrev Well : Result Recovered Stuck → Type 0
-  Well = RoomRecovered
+  abbrev pub Well : Result Recovered Stuck → Type 0
+  Well = EndsSo (λ (r : Recovered). Unit {0}) may
 
-  trouble_fine : (path : Path) (rep : Reply) → Fine rep → IsTroubleSo IsHeld (trouble path rep)
+  trouble_fine : (path : Path) (rep : Reply) → Fine rep → IsTroubleSo may (trouble path rep)
   trouble_fine path (reply.Refused why) fine = fine why refl
   trouble_fine path (reply.Damaged folder file) fine = tt
   trouble_fine path (reply.Looked NoFolder) fine = tt
@@ -146,7 +147,6 @@ module _ (n : ℕ) where
 
   passed_over : (rep : Reply) → FineOrAlive rep → Fated (not_done rep)
   passed_over (reply.Refused refusal.Alive) fine = tt
-  passed_over (reply.Refused refusal.Held) fine = tt
   passed_over (reply.Refused why) fine = fine why refl
   passed_over (reply.Damaged folder file) fine = tt
   passed_over rep fine = tt
@@ -162,7 +162,7 @@ module _ (n : ℕ) where
 
     synced_goes : (program : Tries Fate) (rep : Reply) → Fine rep → Then program → Then (if_synced program rep)
     synced_goes program reply.Done fine goes = goes
-    synced_goes program rep fine goes = on (Err (failure rep)) (failure_so IsHeld rep fine)
+    synced_goes program rep fine goes = on (Err (failure rep)) (failure_so may rep fine)
 
     given_goes : {A : Type 0} (item : Option A) (path : Path) (rep : Reply) (program : A → Tries Fate) → Fine rep → ((a : A) → Then (program a)) → Then (given item (trouble path rep) program)
     given_goes None path rep program fine goes = on (Err (trouble path rep)) (trouble_fine path rep fine)
@@ -173,7 +173,7 @@ module _ (n : ℕ) where
       buries_go count = λ m next rep s so. (stands room, s.grows room so, done_goes (done (Ok _)) rep (bury_fine room e.host e.writer m next rep s so) (on (Ok _) tt))
 
       meta_goes : (run : Run) → Then (mends_meta room e run)
-      meta_goes run = λ m next rep s so. (stands room, s.grows room so, done_goes (buries room e run.cover.count) rep (λ why is. mend_so m s.sound room so (row_of run.cover.writer m.state.table.writers) why (s.reason why is)) (buries_go run.cover.count))
+      meta_goes run = λ m next rep s so. (stands room, s.grows room so, done_goes (buries room e run.cover.count) rep (λ why is. mend_so m s.sound room so may (row_of run.cover.writer m.state.table.writers) why (s.reason why is)) (buries_go run.cover.count))
 
       index_goes : (run : Run) → Then (syncs_index room e run)
       index_goes run = λ m next rep s so. (stands room, s.grows room so, synced_goes (mends_meta room e run) rep (sync_fine room e.host e.writer false m next rep s so) (meta_goes run))
@@ -190,7 +190,7 @@ module _ (n : ℕ) where
       found_goes : (told : ℕ) (run : Run) → Then (found room e told run)
       found_goes told run = elim (nat_eq told (40 * run.cover.count)) as (λ b. Then (if b then keeps room e run else mends room e run)) [
         | true ↦ keeps_go run
-        | false ↦ λ m next rep s so. (stands room, s.grows room so, done_goes (keeps room e run) rep (λ why is. mend_so m s.sound room so (row_of e.writer m.state.table.writers) why (s.reason why is)) (keeps_go run))
+        | false ↦ λ m next rep s so. (stands room, s.grows room so, done_goes (keeps room e run) rep (λ why is. mend_so m s.sound room so may (row_of e.writer m.state.table.writers) why (s.reason why is)) (keeps_go run))
       ]
 
       -- whether a Read was full, and what follows it
@@ -242,8 +242,8 @@ module _ (n : ℕ) where
   recovers_go room [] sofar = tt
   recovers_go room (e ∷ entries) sofar = writer_goes room (on_ok (λ fate. recovers room entries (noted e fate sofar))) (λ result fine. fated_goes room (λ fate. recovers room entries (noted e fate sofar)) result fine (λ fate. recovers_go room entries (noted e fate sofar))) e
 
-  abbrev Listed : Result (List OpenEntry) Stuck → Type 0
-  Listed = EndsSo (λ (entries : List OpenEntry). Unit {0}) IsHeld
+  abbrev pub Listed : Result (List OpenEntry) Stuck → Type 0
+  Listed = EndsSo (λ (entries : List OpenEntry). Unit {0}) may
 
   known_so : {A : Type 0} (folder name : Name) (item : Option A) (goes_on : A → Result (List OpenEntry) Stuck) → ((a : A) → Listed (goes_on a)) → Listed (known folder name item goes_on)
   known_so folder name None goes_on each = tt
@@ -253,17 +253,18 @@ module _ (n : ℕ) where
   named_so [] sofar = tt
   named_so (name ∷ names) sofar = known_so openhosts name (open_in name) (λ (e : OpenEntry). entries_named names (sofar ++ e ∷ [])) (λ (e : OpenEntry). named_so names (sofar ++ e ∷ []))
 
-  told_so : (rep : Reply) → Fine rep → Listed (told_by openhosts (λ names. entries_named names []) rep)
+  pub told_so : (rep : Reply) → Fine rep → Listed (told_by openhosts (λ names. entries_named names []) rep)
   told_so (reply.Looked (Names names)) fine = named_so names []
   told_so (reply.Looked answer) fine = tt
   told_so (reply.Refused why) fine = fine why refl
   told_so rep fine = tt
 
-  listed_goes : (room : ℕ) (listed : Result (List OpenEntry) Stuck) → Listed listed → Goes n Well (stands room) (recovers_listed room listed)
+  pub listed_goes : (room : ℕ) (listed : Result (List OpenEntry) Stuck) → Listed listed → Goes n Well (stands room) (recovers_listed room listed)
   listed_goes room (Ok entries) fine = recovers_go room (entries_by_writer entries) nothing
   listed_goes room (Err why) fine = fine
 
-  mended_so : (rep : Reply) → Fine rep → Well (hold_mended rep)
+module _ (n : ℕ) where
+  mended_so : (rep : Reply) → Fine n IsHeld rep → RoomRecovered (hold_mended rep)
   mended_so (reply.Mended made) fine = tt
   mended_so rep fine = failure_so IsHeld rep fine
 
@@ -273,17 +274,17 @@ module _ (n : ℕ) where
     | inr none ↦ absurd (has_room m s.sound room had (none.1 s.sound.shape.tree s.sound.shape.told))
   ]
 
-  mends_go : (room : ℕ) → Goes n Well (stands room) (mends_hold room)
+  mends_go : (room : ℕ) → Goes n RoomRecovered (stands room) (mends_hold room)
   mends_go room = λ m next rep s so. (stands room, s.grows room so, mended_so rep (λ why is. mend_reason room m next rep why s so is))
 
   -- of a container that is there
-  pub room_goes : (room : ℕ) → Goes n Well (stands room) (lists_open room)
-  room_goes room = λ m next rep s so. (stands room, s.grows room so, by rep (look_fine room (ListFolder openhosts) m next rep s so))
+  pub room_goes : (room : ℕ) → Goes n RoomRecovered (stands room) (lists_open room)
+  room_goes room = λ m next rep s so. (stands room, s.grows room so, by rep (look_fine n IsHeld room (ListFolder openhosts) m next rep s so))
     where
-      by : (rep : Reply) → Fine rep → Goes n Well (stands room) (if is_no_folder rep then mends_hold room else recovers_listed room (told_by openhosts (λ names. entries_named names []) rep))
-      by rep fine = elim (is_no_folder rep) as (λ b. Goes n Well (stands room) (if b then mends_hold room else recovers_listed room (told_by openhosts (λ names. entries_named names []) rep))) [
+      by : (rep : Reply) → Fine n IsHeld rep → Goes n RoomRecovered (stands room) (if is_no_folder rep then mends_hold room else recovers_listed room (told_by openhosts (λ names. entries_named names []) rep))
+      by rep fine = elim (is_no_folder rep) as (λ b. Goes n RoomRecovered (stands room) (if b then mends_hold room else recovers_listed room (told_by openhosts (λ names. entries_named names []) rep))) [
         | true ↦ mends_go room
-        | false ↦ listed_goes room (told_by openhosts (λ names. entries_named names []) rep) (told_so rep fine)
+        | false ↦ listed_goes n IsHeld room (told_by openhosts (λ names. entries_named names []) rep) (told_so n IsHeld rep fine)
       ]
 
   sought_goes : (name : Name) (rep : Reply) (m next : Moment) → Stepped n m (Find name) rep next → (after : Fact) × IsSo n after next × Goes n RecoveredSo after (given (room_in rep) (failure rep) lists_open)

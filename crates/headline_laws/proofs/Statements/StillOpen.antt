@@ -10,7 +10,7 @@ use Rattle.mount_model.specs.State.{State}
 use Rattle.mount_sound.specs.Sound.{IsSoundTree}
 use Rattle.mount_sound.proofs.Facts.{mounted_fine}
 use Rattle.reader_laws.specs.Moments.{IsSoundAt, Moment}
-use Rattle.reader_laws.proofs.Gathered.Facts.{all_at, among, among_right, is_among}
+use Rattle.reader_laws.proofs.Gathered.Facts.{among, among_right, is_among}
 use Rattle.script_lang.specs.Ranges.{FitsScript}
 use Rattle.script_lang.specs.declared.line.Outcome.{Outcome}
 use Rattle.script_lang.specs.declared.line.Outcome.TheVariants as line
@@ -25,11 +25,7 @@ use Rattle.headline.specs.Writers.{nothing}
 use Rattle.headline.specs.Changes.{MayBeDead, Writing, id_of, none, writer, writing_after, writing_at, writing_next}
 use Rattle.headline.specs.Kinds.{IsOfKind}
 use Rattle.headline.specs.Reasons.{IsReasonOf}
-use Rattle.headline.specs.Recovered.{HasRecovered, IsStillOpen, TakesOut}
-use Rattle.headline.specs.Ended.{HasEnded}
-use Rattle.headline.specs.Names.{Story}
-use Rattle.plfs_types.specs.Places.{IsAmong}
-use Rattle.plfs_types.specs.declared.entries.WriterCount.{WriterCount}
+use Rattle.headline.specs.Recovered.{IsStillOpen}
 use Rattle.headline_laws.proofs.Contents.OpenedWriter.{First, Opening, Whole, entered_so, sound_first, started}
 use Rattle.headline_laws.proofs.OrderlyLines.Answering.{among_filter, among_own, own_actor}
 use Rattle.headline_laws.proofs.OrderlyLines.Orderly.{kinds_told}
@@ -43,7 +39,7 @@ use Rattle.headline_laws.proofs.Statements.LivingLines.{GoesOn}
 use Rattle.headline_laws.proofs.Statements.SureLines.{SureAt, sure_at, sure_writing}
 use Rattle.headline_laws.proofs.Story.Attributed.{either_part, tail_of}
 use Rattle.headline_laws.proofs.Story.Lines.{ChainOf, chain_of, line_here, writing_append}
-use Rattle.headline_laws.proofs.Story.Ordered.{Front, IsBehind, Ordered, begun_first, has_begun, not_behind, own_ordered}
+use Rattle.headline_laws.proofs.Story.Ordered.{Front, IsBehind, Ordered, begun_first, has_begun, own_ordered}
 use Rattle.headline_laws.proofs.Story.Shown.{ShownEach}
 use Rattle.headline_laws.proofs.Trees.WriterStands.{was_open}
 
@@ -280,19 +276,3 @@ module _ (run : Run) (times : Option (List ℕ)) (mount : Stored) (start end : S
     -- the law of this file
     pub still_or_dead : surely_before run t o ≡ false → IsStillOpen run t o ⊎ MayBeDead run t o.actor id
     still_or_dead early = (let its = own_split run o (among (told run) o opened.is_line) in either_so its.rest its.is early)
-
-  -- ---- what follows for recoveries
-
-  pub recoveries_end : run.in_order ≡ false → (story : Story) → HasRecovered run story → HasEnded run story
-  recoveries_end free story recovered = record {
-    dead = λ t o out alive hold b says at opened home early. died t o out alive hold b says at opened home early (still_or_dead free t o b.writer opened early);
-    all_named = λ t o out alive id says opened home sooner lives. found t o out alive id says opened home sooner lives (still_or_dead free t o id opened (not_behind run free t o t sooner));
-  }
-    where
-      died : (t o : Told) (out : List WriterCount) (alive : List ℕ) (hold : Bool) (b : WriterCount) → Says run t (line.Recovered out alive hold) → IsAmong b out → Says run o (line.Opened b.writer) → story.of o ≡ story.of t → surely_before run t o ≡ false → IsStillOpen run t o ⊎ MayBeDead run t o.actor b.writer → MayBeDead run t o.actor b.writer
-      died t o out alive hold b says at opened home early (inl still) = absurd ((all_at (TakesOut run story t) out b (recovered.taken_out t out alive hold says) (among out b at)).dead o opened.is_line opened.says home early still)
-      died t o out alive hold b says at opened home early (inr dead) = dead
-
-      found : (t o : Told) (out : List WriterCount) (alive : List ℕ) (id : ℕ) → Says run t (line.Recovered out alive false) → Says run o (line.Opened id) → story.of o ≡ story.of t → surely_before run o t ≡ true → (MayBeDead run t o.actor id → ⊥) → IsStillOpen run t o ⊎ MayBeDead run t o.actor id → IsAmong id alive
-      found t o out alive id says opened home sooner lives (inl still) = recovered.named t o out alive false id says opened home sooner still
-      found t o out alive id says opened home sooner lives (inr dead) = absurd (lives dead)

@@ -182,7 +182,7 @@ quiet_among (x ∷ workers) calls quiet (inl same) = subst AreQuiet (sym same) q
 quiet_among (x ∷ workers) calls quiet (inr at) = quiet_among workers calls quiet.1 at
 
 -- a call that isn't quiet is an actor's own
-record OwnCall (run : Run) (start end : State) (right : IsRight run.script start run.lines end) (e : Event) : Type 0 where
+pub record OwnCall (run : Run) (start end : State) (right : IsRight run.script start run.lines end) (e : Event) : Type 0 where
   pub place : ℕ
   pub declared : ActorDecl
   pub there : slice_get run.script.actors place ≡ Some declared
@@ -190,7 +190,7 @@ record OwnCall (run : Run) (start end : State) (right : IsRight run.script start
   pub role_there : slice_get right.calls.roles place ≡ Some role
   pub own : e.caller ≡ role.number
 
-own_call : (run : Run) (start end : State) (right : IsRight run.script start run.lines end) (pre : List Event) (e : Event) (post : List Event) → right.history ≡ pre ++ e ∷ post → (IsQuiet e.ask.call → ⊥) → OwnCall run start end right e
+pub own_call : (run : Run) (start end : State) (right : IsRight run.script start run.lines end) (pre : List Event) (e : Event) (post : List Event) → right.history ≡ pre ++ e ∷ post → (IsQuiet e.ask.call → ⊥) → OwnCall run start end right e
 own_call run start end right pre e post is loud =
     let history = right.history in
     let roles = right.calls.roles in
@@ -338,6 +338,9 @@ module _ (run : Run) (m : Moment) (end : State) (fits : FitsScript run.script) (
     pub in_it : line.line.part.mine ≡ first ++ e ∷ later
     pub before_is : pre ≡ line.line.part.earlier ++ first
     pub own : e.caller ≡ line.number
+    pub role : ItsRole
+    pub role_there : slice_get right.calls.roles t.actor ≡ Some role
+    pub its_number : e.caller ≡ role.number
     pub opened : (x : OneWriter) → line.line.writer ≡ Some x → OpenedBy (IsLine run) x
     pub asks : MayAsk line.line.kept t.statement e.ask.call
     pub its_host : line.line.kept.host ≡ host_of (slice_get run.script.actors t.actor)
@@ -367,6 +370,9 @@ module _ (run : Run) (m : Moment) (end : State) (fits : FitsScript run.script) (
         in_it = f.in_it;
         before_is = f.before_is;
         own = its;
+        role = o.role;
+        role_there = ap (slice_get right.calls.roles) at_place ∙ o.role_there;
+        its_number = o.own;
         opened = f.opened;
         asks = came_asks n (MayAsk f.line.kept f.t.statement) Anyhow (work_of f.line.kept f.t.statement) f.line.part.mine f.line.part.spent f.line.part.e (statement_asks f.line.kept f.t.statement) f.line.part.comes f.first e f.later f.in_it its;
         its_host = hosts ∙ c.parts.host ∙ ap (λ k. host_of (slice_get run.script.actors k)) (sym at_place);

@@ -1,22 +1,23 @@
 -- The chain of each actor's lines, and of each line the container that it speaks of.
-use Rattle.std.proofs.Common.{◌≡◌, ◌≤◌, ◌<◌, ◌+◌, ◌||◌, inl, inr, ℕ, true, false, nat_eq, nat_lt, List, [], ◌∷◌, ◌++◌, length, map, Option, Some, None, refl, sym, ap, ◌∙◌, subst, arith, length-append, if◌then◌else◌, append_assoc}
+use Rattle.std.proofs.Common.{◌≡◌, ◌≤◌, ◌<◌, ◌+◌, ◌&&◌, ◌||◌, inl, inr, ℕ, true, false, nat_eq, nat_lt, List, [], ◌∷◌, ◌++◌, length, map, Option, Some, None, refl, sym, ap, ◌∙◌, subst, arith, length-append, if◌then◌else◌, append_assoc}
 use Rattle.std.specs.Prelude.{⊤, slice_get}
 use Rattle.std.specs.List.{AllByRecursion}
 use Rattle.std.proofs.lemmas.Bool.Decides.{nat_tests}
 use Rattle.std.proofs.lemmas.List.Elements.{recursion_from_All}
 use Rattle.turn_object.specs.Callers.{made_by}
 use Rattle.mount_model.specs.declared.call.Call.{Call}
-use Rattle.mount_model.specs.declared.call.Call.TheVariants.{Enter, Hold}
+use Rattle.mount_model.specs.declared.call.Call.TheVariants.{Enter, Hold, MendHold}
 use Rattle.mount_model.specs.History.{Event}
 use Rattle.mount_model.specs.State.{State}
-use Rattle.reader_laws.specs.Moments.{IsSoundAt, Moment}
+use Rattle.store_api.specs.declared.tree.Tree.{Tree}
+use Rattle.reader_laws.specs.Moments.{IsSoundAt, Moment, moment_after}
 use Rattle.plain_file.proofs.Facts.{Among}
 use Rattle.reader_laws.proofs.Gathered.Facts.{among}
 use Rattle.script_lang.specs.Ranges.{FitsNumbered, FitsPhase, FitsScript, FitsStatement}
 use Rattle.script_lang.specs.declared.line.Line.{Line}
 use Rattle.script_lang.specs.declared.line.Outcome.{Outcome}
 use Rattle.script_lang.specs.declared.line.Outcome.TheVariants as line
-use Rattle.script_lang.specs.declared.line.Why.TheVariants.{Busy, StampsSpent}
+use Rattle.script_lang.specs.declared.line.Why.TheVariants.{Busy, Exists, Held, StampsSpent}
 use Rattle.script_lang.specs.declared.script.ActorDecl.{ActorDecl}
 use Rattle.script_lang.specs.declared.script.Numbered.{Numbered}
 use Rattle.script_lang.specs.declared.script.Phase.{Phase}
@@ -101,21 +102,54 @@ first_entered nothing (e ∷ events) = entered_or e.ask.call (first_entered noth
 abbrev pub entered_room : ℕ → ℕ → List Event → ℕ
 entered_room n nothing events = first_entered nothing (made_by n events)
 
--- A truncate that broke off speaks of the container that it held, an opening of the one that it entered, and what is refused as busy of the one that it was to hold.
--- One that no stamp was left for speaks of the one in which the last stands.
+-- how many containers are told
+abbrev pub many_in : Option Tree → ℕ
+many_in None = 0
+many_in (Some tree) = length tree.rooms
+
+abbrev pub many_rooms : State → ℕ
+many_rooms state = many_in state.store.tree
+
+-- and the one that the first of them made that made one
+abbrev pub first_made : ℕ → ℕ → State → List Event → ℕ
+first_made n nothing state [] = nothing
+first_made n nothing state (e ∷ events) = if nat_eq e.caller n && nat_lt (many_rooms state) (many_rooms e.after) then many_rooms state else first_made n nothing e.after events
+
+abbrev pub made_room : Moment → ℕ → Stretch → ℕ → ℕ
+made_room m n stretch nothing = first_made n nothing (moment_after m stretch.before).state stretch.events
+
+-- and the one whose hold the last is to end
+abbrev pub mended_or : Call → ℕ → ℕ
+mended_or (MendHold room) nothing = room
+mended_or call nothing = nothing
+
+abbrev pub last_mended : ℕ → List Event → ℕ
+last_mended nothing [] = nothing
+last_mended nothing (e ∷ []) = mended_or e.ask.call nothing
+last_mended nothing (e ∷ f ∷ events) = last_mended nothing (f ∷ events)
+
+abbrev pub mended_room : ℕ → ℕ → List Event → ℕ
+mended_room n nothing events = last_mended nothing (made_by n events)
+
+-- A truncate and a rename that came to nothing speak of the container that they held or were to hold, and an opening in which no writer was opened of the one that it
+-- was to enter, or made. A recovery that was refused as held speaks of the one whose hold it was to end. One that no stamp was left for speaks of the one in which
+-- the last stands.
 abbrev pub changed_room : (m : Moment) (n : ℕ) (stretch : Stretch) → ℕ → (file new : Option OneFile) (s : Statement) (o : Outcome) → Shows m n stretch file s o new → ℕ
 changed_room m n stretch nothing file new (Stat name) (line.Stat size stored shares truncs) shows = shows.1.0.room
 changed_room m n stretch nothing file new (Trunc name size) (line.Truncated stamp) shows = shows.1.change.room
 changed_room m n stretch nothing file new (Trunc name size) (line.Refused StampsSpent) shows = shows.1.change.room
-changed_room m n stretch nothing file new (Trunc name size) line.Fault shows = held_room n nothing stretch.events
-changed_room m n stretch nothing file new (Trunc name size) line.Stopped shows = held_room n nothing stretch.events
 changed_room m n stretch nothing file new (Trunc name size) (line.Refused (Busy host id)) shows = shows.1.attempt.room
 changed_room m n stretch nothing file new (Rename name to) (line.Refused (Busy host id)) shows = shows.1.attempt.room
-changed_room m n stretch nothing file new (Open name) line.Fault shows = entered_room n nothing stretch.events
-changed_room m n stretch nothing file new (Open name) line.Stopped shows = entered_room n nothing stretch.events
+changed_room m n stretch nothing file new (Open name) line.Fault shows = entered_room n (made_room m n stretch nothing) stretch.events
+changed_room m n stretch nothing file new (Open name) line.Stopped shows = entered_room n (made_room m n stretch nothing) stretch.events
+changed_room m n stretch nothing file new (Open name) (line.Refused because) shows = entered_room n (made_room m n stretch nothing) stretch.events
 changed_room m n stretch nothing file new (Rename name to) line.Renamed shows = shows.1.change.room
+changed_room m n stretch nothing file new (Rename name to) (line.Refused Exists) shows = shows.1.change.room
 changed_room m n stretch nothing file new (Recover name) (line.Recovered buried alive hold) shows = shows.1.room
 changed_room m n stretch nothing file new (Flatten name) (line.Flattened id many cut) shows = shows.1.room
+changed_room m n stretch nothing file new (Trunc name size) o shows = held_room n nothing stretch.events
+changed_room m n stretch nothing file new (Rename name to) o shows = held_room n nothing stretch.events
+changed_room m n stretch nothing file new (Recover name) (line.Refused Held) shows = mended_room n nothing stretch.events
 changed_room m n stretch nothing file new s o shows = nothing
 
 abbrev pub room_of : (m : Moment) (n : ℕ) (stretch : Stretch) → ℕ → (file new : Option OneFile) → Option OneWriter → (s : Statement) (o : Outcome) → Shows m n stretch file s o new → ℕ

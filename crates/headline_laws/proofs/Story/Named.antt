@@ -1,5 +1,5 @@
 -- Where no statement renames, a container keeps the name by which a line spoke of it.
-use Rattle.std.proofs.Common.{◌≡◌, inl, inr, ℕ, List, [], ◌∷◌, ◌++◌, length, Option, Some, None, option_map, refl, sym, ap, ◌∙◌, subst, append_assoc}
+use Rattle.std.proofs.Common.{◌≡◌, ◌⊎◌, inl, inr, ℕ, List, [], ◌∷◌, ◌++◌, length, Option, Some, None, option_map, refl, sym, ap, ◌∙◌, subst, append_assoc}
 use Rattle.std.specs.Prelude.{⊤, slice_get}
 use Rattle.std.proofs.lemmas.Option.{slice_get-map}
 use Rattle.turn_object.proofs.Facts.{state_append}
@@ -10,7 +10,10 @@ use Rattle.store_laws.specs.Naming.{NamesRoom}
 use Rattle.store_laws.specs.Outcomes.{IsLook}
 use Rattle.store_laws.proofs.Facts.{keeps_rooms}
 use Rattle.mount_model.specs.declared.call.Call.{Call}
-use Rattle.mount_model.specs.declared.call.Call.TheVariants.{Move}
+use Rattle.mount_model.specs.declared.call.Call.TheVariants.{Mark, Move}
+use Rattle.mount_model.specs.declared.reply.Refusal.TheVariants as refusal
+use Rattle.mount_model.specs.declared.reply.Reply.{Reply}
+use Rattle.mount_model.specs.declared.reply.Reply.TheVariants as reply
 use Rattle.mount_model.specs.Entering.{next_id}
 use Rattle.mount_model.specs.History.{Event, state_after}
 use Rattle.mount_model.specs.State.{State}
@@ -22,12 +25,15 @@ use Rattle.reader_laws.proofs.Gathered.Facts.{follows, legal_first, legal_rest, 
 use Rattle.script_lang.specs.Ranges.{FitsScript}
 use Rattle.script_lang.specs.declared.line.Outcome.{Outcome}
 use Rattle.script_lang.specs.declared.line.Outcome.TheVariants as line
+use Rattle.script_lang.specs.declared.line.Why.TheVariants.{Busy, Exists, Held, StampsSpent}
 use Rattle.script_lang.specs.declared.script.Statement.{Statement}
-use Rattle.script_lang.specs.declared.script.Statement.TheVariants.{Flatten, Open, Recover, Ropen, Stat, Trunc}
+use Rattle.script_lang.specs.declared.script.Statement.TheVariants.{Flatten, Open, Recover, Rename, Ropen, Stat, Trunc}
 use Rattle.run_core.specs.Play.{IsRight}
 use Rattle.headline_laws.specs.OneFile.{OneFile}
 use Rattle.headline_laws.specs.OneWriter.{OneWriter}
 use Rattle.reader_laws.specs.Naming.{IsRoomNamed}
+use Rattle.headline_laws.specs.Changing.{Change, IsChange}
+use Rattle.headline_laws.specs.Refusing.{FindsHeld, FindsOpen, FindsTaken}
 use Rattle.headline_laws.specs.Opening.{Stretch}
 use Rattle.headline_laws.specs.Showing.{Shows}
 use Rattle.headline_laws.specs.Writing.{ShowsWriting}
@@ -37,6 +43,7 @@ use Rattle.headline.specs.Names.{names_in}
 use Rattle.headline.specs.Readers.{HasNames, RenamesNone, SpeaksOf}
 use Rattle.headline_laws.proofs.Story.Attributed.{attributed}
 use Rattle.headline_laws.proofs.Story.Lines.{container, file_room, line_here, room_of}
+use Rattle.headline_laws.proofs.Story.Namings.{story_of}
 use Rattle.headline_laws.proofs.Trees.Reading.{in_part}
 
 -- ---- one call
@@ -124,6 +131,15 @@ pub record NamedAt (m : Moment) (before front : List Event) (name : List ℕ) (r
   pub split : front ≡ upto ++ later
   pub named : IsRoomNamed (moment_after m (before ++ upto)) name room
 
+-- the line shows which container had the name of its statement
+abbrev pub FindsBy : List ℕ → Statement → Outcome → Type 0
+FindsBy name (Rename asked to) line.Renamed = asked ≡ name
+FindsBy name (Rename asked to) (line.Refused (Busy host id)) = asked ≡ name
+FindsBy name (Rename asked to) (line.Refused Exists) = asked ≡ name
+FindsBy name (Trunc asked many) (line.Refused (Busy host id)) = asked ≡ name
+FindsBy name (Trunc asked many) (line.Refused StampsSpent) = asked ≡ name
+FindsBy name s o = SpeaksOf name s o
+
 module _ (m : Moment) (n : ℕ) (before front : List Event) (nothing : ℕ) where
   abbrev There : Stretch
   There = record { before = before; events = front }
@@ -182,9 +198,61 @@ module _ (m : Moment) (n : ℕ) (before front : List Event) (nothing : ℕ) wher
       })
   named_at name old new writer w s o is shows writes = absurd is
 
+  -- ---- what other lines show that name a container
+
+  attempted : (name : List ℕ) (host id : ℕ) (f : FindsOpen m n There name host id) → NamedAt m before front name f.attempt.room
+  attempted name host id f = record { upto = f.attempt.earlier; later = f.attempt.finding ∷ f.attempt.between ++ f.attempt.holding ∷ f.attempt.later; split = f.made.split; named = f.made.named }
+
+  changed : (name : List ℕ) (call : ℕ → Call) (answer : Reply) (c : Change) → IsChange m n There name call answer c → NamedAt m before front name c.room
+  changed name call answer c made = record { upto = c.earlier; later = c.finding ∷ c.between ++ (c.holding ∷ c.more ++ c.changing ∷ c.later); split = made.split; named = made.named }
+
+  pub finds_at : (name : List ℕ) (old new : Option OneFile) (writer w : Option OneWriter) (s : Statement) (o : Outcome) → FindsBy name s o → (shows : Shows m n There old s o new) → ShowsWriting m n There writer s o w → NamedAt m before front name (room_of m n There nothing old new w s o shows)
+  finds_at name old new writer w (Rename asked to) line.Renamed is shows writes = subst (λ x. NamedAt m before front x shows.1.change.room) is (changed asked (λ holder. Move holder to) reply.Done shows.1.change shows.1.made)
+  finds_at name old new writer w (Rename asked to) (line.Refused (Busy host id)) is shows writes = subst (λ x. NamedAt m before front x shows.1.attempt.room) is (attempted asked host id shows.1)
+  finds_at name old new writer w (Rename asked to) (line.Refused Exists) is shows writes = subst (λ x. NamedAt m before front x shows.1.change.room) is (changed asked (λ holder. Move holder to) (reply.Refused refusal.Exists) shows.1.change shows.1.made)
+  finds_at name old new writer w (Trunc asked many) (line.Refused (Busy host id)) is shows writes = subst (λ x. NamedAt m before front x shows.1.attempt.room) is (attempted asked host id shows.1)
+  finds_at name old new writer w (Trunc asked many) (line.Refused StampsSpent) is shows writes = subst (λ x. NamedAt m before front x shows.1.change.room) is (changed asked (λ holder. Mark holder many shows.1.top) (reply.Refused refusal.StampsSpent) shows.1.change shows.1.made)
+  finds_at name old new writer w (Open asked) (line.Opened id) is shows writes = named_at name old new writer w (Open asked) (line.Opened id) is shows writes
+  finds_at name old new writer w (Ropen asked workers) (line.Reader size cut truncs) is shows writes = named_at name old new writer w (Ropen asked workers) (line.Reader size cut truncs) is shows writes
+  finds_at name old new writer w (Stat asked) (line.Stat size stored shares truncs) is shows writes = named_at name old new writer w (Stat asked) (line.Stat size stored shares truncs) is shows writes
+  finds_at name old new writer w (Trunc asked many) (line.Truncated stamp) is shows writes = named_at name old new writer w (Trunc asked many) (line.Truncated stamp) is shows writes
+  finds_at name old new writer w (Recover asked) (line.Recovered buried alive hold) is shows writes = named_at name old new writer w (Recover asked) (line.Recovered buried alive hold) is shows writes
+  finds_at name old new writer w (Flatten asked) (line.Flattened id many cut) is shows writes = named_at name old new writer w (Flatten asked) (line.Flattened id many cut) is shows writes
+  finds_at name old new writer w s o is shows writes = absurd is
+
+  -- a container had the other name by which a rename was to call its own
+  pub record TakenAt (to : List ℕ) : Type 0 where
+    pub upto : List Event
+    pub later : List Event
+    pub split : front ≡ upto ++ later
+    pub other : ℕ
+    pub named : IsRoomNamed (moment_after m (before ++ upto)) to other
+
+  -- a container was found by its name, and was to be held while it was held
+  pub held_at : (name : List ℕ) (old new : Option OneFile) (s : Statement) (o : Outcome) → (((many : ℕ) × (s ≡ Trunc name many)) ⊎ ((to : List ℕ) × (s ≡ Rename name to))) → o ≡ line.Refused Held → Shows m n There old s o new → FindsHeld m n There name
+  held_at name old new (Trunc asked many) (line.Refused Held) (inl (size, is)) says shows = (let same : asked ≡ name = cc in subst (FindsHeld m n There) same shows.1)
+  held_at name old new (Rename asked to) (line.Refused Held) (inr (other, is)) says shows = (let same : asked ≡ name = cc in subst (FindsHeld m n There) same shows.1)
+  held_at name old new s o (inl (size, is)) says shows = absurd (cc)
+  held_at name old new s o (inr (other, is)) says shows = absurd (cc)
+
+  taken_so : (name to : List ℕ) → FindsTaken m n There name to → TakenAt to
+  taken_so name to f =
+      let c = f.change in
+      record {
+        upto = c.earlier ++ (c.finding ∷ c.between ++ (c.holding ∷ c.more));
+        later = c.changing ∷ c.later;
+        split = f.made.split ∙ ap (λ z. c.earlier ++ z) (sym (append_assoc (c.finding ∷ c.between) (c.holding ∷ c.more) (c.changing ∷ c.later))) ∙ sym (append_assoc c.earlier (c.finding ∷ c.between ++ (c.holding ∷ c.more)) (c.changing ∷ c.later));
+        other = f.other;
+        named = f.taken;
+      }
+
+  pub taken_at : (name to : List ℕ) (old new : Option OneFile) (s : Statement) (o : Outcome) → s ≡ Rename name to → o ≡ line.Refused Exists → Shows m n There old s o new → TakenAt to
+  taken_at name to old new (Rename asked other) (line.Refused Exists) is says shows = (let same : other ≡ to = cc in subst TakenAt same (taken_so asked other shows.1))
+  taken_at name to old new s o is says shows = absurd (cc)
+
 -- ---- the law of this file
 
-its_name : (tree : Tree) (n : ℕ) (room : Room) (name : List ℕ) → slice_get tree.rooms n ≡ Some room → room.name ≡ name → slice_get (names_in tree) n ≡ Some name
+pub its_name : (tree : Tree) (n : ℕ) (room : Room) (name : List ℕ) → slice_get tree.rooms n ≡ Some room → room.name ≡ name → slice_get (names_in tree) n ≡ Some name
 its_name tree n room name there is = slice_get-map (λ (r : Room). r.name) tree.rooms n ∙ ap (option_map (λ (r : Room). r.name)) there ∙ ap (λ x. Some x) is
 
 module _ (run : Run) (m : Moment) (end : State) (fits : FitsScript run.script) (sound : IsSoundAt m) (right : IsRight run.script m.state run.lines end) (left : end.store.tree ≡ Some run.after) where
@@ -222,5 +290,5 @@ module _ (run : Run) (m : Moment) (end : State) (fits : FitsScript run.script) (
       let split = in_part right.history p.earlier p.mine p.later h.front h.rest a.upto a.later p.split h.split a.split in
       ap (λ k. slice_get (names_in run.after) k) l.line.here ∙ name_at_last none (p.earlier ++ a.upto) (a.later ++ (h.rest ++ p.later)) split room name a.named
 
-  pub names_told : HasNames run (record { namings = []; of = container run m end fits sound right })
+  pub names_told : HasNames run (story_of run m end fits sound right)
   names_told = record { named = named_line }

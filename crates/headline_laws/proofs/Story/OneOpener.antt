@@ -99,7 +99,7 @@ module _ (history : List Event) where
           let differ = (subst (λ es. AreApart (as_ended es ++ Numbers roles)) is here).0 in
           some (ap (λ k. made_by k history) same ∙ made_none roles j b c.caller there (sym same ∙ sym (first_own r.number c cs is)) (recursion_from_All (Differs c.caller) (Numbers roles) differ))
 
-  one_place : (roles : List ItsRole) (i j : ℕ) (a b : ItsRole) → slice_get roles i ≡ Some a → slice_get roles j ≡ Some b → a.number ≡ b.number → (made_by a.number history ≡ [] → ⊥) → AreApart (Numbers roles) → i ≡ j
+  pub one_place : (roles : List ItsRole) (i j : ℕ) (a b : ItsRole) → slice_get roles i ≡ Some a → slice_get roles j ≡ Some b → a.number ≡ b.number → (made_by a.number history ≡ [] → ⊥) → AreApart (Numbers roles) → i ≡ j
   one_place [] i j a b one other same some apart = absurd (cc)
   one_place (r ∷ roles) zero zero a b one other same some apart = refl
   one_place (r ∷ roles) zero (suc j) a b one other same some apart =

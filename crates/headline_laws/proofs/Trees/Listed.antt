@@ -142,6 +142,11 @@ same_tree x y o p q = cc
 not_marks : (name : Name) → IsLogicalName name → name ≡ marks_name → ⊥
 not_marks name logical is = let clash : false ≡ true = sym (ap is_logical is) ∙ rule_passes name logical in absurd (cc)
 
+pub unmarked_so : (xs : List Name) → AllByRecursion IsLogicalName xs → Among marks_name xs → ⊥
+unmarked_so [] all at = absurd at
+unmarked_so (x ∷ xs) all (inl same) = not_marks x all.0 (sym same)
+unmarked_so (x ∷ xs) all (inr at) = unmarked_so xs all.1 at
+
 module _ (run : Run) (times : Option (List ℕ)) (mount : Stored) (start end : State) (fits : FitsScript run.script) (mounted : IsMounted 0 times mount start) (tells : mount.tree ≡ Some run.before) (sound : IsSoundTree run.before)
     (right : IsRight run.script start run.lines end) (left : end.store.tree ≡ Some run.after) (free : run.in_order ≡ false) where
   abbrev Begins : Moment
@@ -164,14 +169,15 @@ module _ (run : Run) (times : Option (List ℕ)) (mount : Stored) (start end : S
 
   -- ---- where the names were told
 
-  record ListingAt {r : Option Told} {w : Writing} {t : Told} (l : Line r w t) (names : List Name) : Type 0 where
+  pub record ListingAt {r : Option Told} {w : Writing} {t : Told} (l : Line r w t) (names : List Name) : Type 0 where
     pub upto : List Event
     pub rest : List Event
     pub split : right.history ≡ (l.line.part.earlier ++ upto) ++ rest
+    pub inside : (more : List Event) × (l.line.part.mine ≡ upto ++ more)
     pub sound_there : IsSoundAt (moment_after Begins (l.line.part.earlier ++ upto))
     pub listed : AreListed sound_there.shape.tree names
 
-  listing : (r : Option Told) (w : Writing) (t : Told) (l : Line r w t) (names : List Name) → t.outcome ≡ line.Listed names → ListingAt l names
+  pub listing : (r : Option Told) (w : Writing) (t : Told) (l : Line r w t) (names : List Name) → t.outcome ≡ line.Listed names → ListingAt l names
   listing r w t l names says =
       let p = l.line.part in
       let told : p.e.outcome ≡ line.Listed names = sym l.line.says ∙ says in
@@ -184,22 +190,23 @@ module _ (run : Run) (times : Option (List ℕ)) (mount : Stored) (start end : S
       let step = (legal_rest Begins upto (c.event ∷ (c.post ++ p.later)) whole).1 in
       let answers : Answers (moment_after Begins upto).state c.event.caller AskRooms c.event.reply c.event.after =
       subst (λ q. Answers (moment_after Begins upto).state c.event.caller q c.event.reply c.event.after) (ap (λ (a : Ask). a.call) c.asked) (whole_answers (moment_after Begins upto).state c.event.caller c.event.ask c.event.reply c.event.after (ap (λ (a : Ask). a.stop) c.asked) step) in
-      record { upto = c.pre; rest = c.event ∷ (c.post ++ p.later); split = split; sound_there = s; listed = names_listed (moment_after Begins upto).state c.event.after s.shape.tree c.event.reply names s.shape.told answers c.tells }
+      record { upto = c.pre; rest = c.event ∷ (c.post ++ p.later); split = split; inside = (c.event ∷ c.post, c.split); sound_there = s; listed = names_listed (moment_after Begins upto).state c.event.after s.shape.tree c.event.reply names s.shape.told answers c.tells }
 
   -- ---- what is among them
+
+  -- a container that has the name then, but that of the marks
+  pub in_list : {r : Option Told} {w : Writing} {t : Told} (l : Line r w t) (names : List Name) (z : ListingAt l names) (n : ℕ) (name : Name) → (name ≡ marks_name → ⊥) → HasName (moment_after Begins (l.line.part.earlier ++ z.upto)).state n name → IsAmong name names
+  in_list l names z n name apart has =
+      let then_is : Moment = moment_after Begins (l.line.part.earlier ++ z.upto) in
+      let there : slice_get z.sound_there.shape.tree.rooms n ≡ Some has.room = subst (λ (x : Tree). slice_get x.rooms n ≡ Some has.room) (same_tree has.tree z.sound_there.shape.tree then_is.state.store.tree has.told z.sound_there.shape.told) has.there in
+      elim (z.sound_there.shape.shaped.rooms n has.room there) as (λ _. IsAmong name names) [
+        | inl m ↦ absurd (apart (sym has.is ∙ m.named))
+        | inr c ↦ is_among names name (z.listed.all name (subst IsLogicalName has.is c.named) (record { number = n; room = has.room; there = there; is = has.is }))
+      ]
 
   module _ (none : RenamesNone run) (t : Told) (names : List Name) (says : Says run t (line.Listed names)) (r : Option Told) (w : Writing) (l : Line r w t) (z : ListingAt l names) where
     abbrev X : List Event
     X = l.line.part.earlier ++ z.upto
-
-    -- a container that has the name then, but that of the marks
-    in_list : (n : ℕ) (name : Name) → (name ≡ marks_name → ⊥) → HasName (moment_after Begins X).state n name → IsAmong name names
-    in_list n name apart has =
-        let there : slice_get z.sound_there.shape.tree.rooms n ≡ Some has.room = subst (λ (x : Tree). slice_get x.rooms n ≡ Some has.room) (same_tree has.tree z.sound_there.shape.tree (moment_after Begins X).state.store.tree has.told z.sound_there.shape.told) has.there in
-        elim (z.sound_there.shape.shaped.rooms n has.room there) as (λ _. IsAmong name names) [
-          | inl m ↦ absurd (apart (sym has.is ∙ m.named))
-          | inr c ↦ is_among names name (z.listed.all name (subst IsLogicalName has.is c.named) (record { number = n; room = has.room; there = there; is = has.is }))
-        ]
 
     known_so : All (λ (name : Name). IsAmong name (names_in run.after)) names
     known_so = All-from_recursion (λ (name : Name). IsAmong name (names_in run.after)) names (each names (λ name at. at))
@@ -218,7 +225,7 @@ module _ (run : Run) (times : Option (List ℕ)) (mount : Stored) (start end : S
     stood_so : (name : Name) → IsAmong name (names_in run.before) → (name ≡ marks_name → ⊥) → IsAmong name names
     stood_so name at apart =
         let f = name_of_room run.before.rooms name (among (names_in run.before) name at) in
-        in_list f.number name apart (stays_to none [] X z.rest z.split f.number name (mounting_names times mount start run.before f.number name mounted tells f.room f.there f.is))
+        in_list l names z f.number name apart (stays_to none [] X z.rest z.split f.number name (mounting_names times mount start run.before f.number name mounted tells f.room f.there f.is))
 
   -- one by which a line spoke of a container before
   spoken_so : RenamesNone run → (t : Told) (names : List Name) → Says run t (line.Listed names) → (s : Told) (name : Name) → IsLine run s → SpeaksOf name s.statement s.outcome → surely_before run s t ≡ true → (name ≡ marks_name → ⊥) → IsAmong name names
@@ -237,7 +244,7 @@ module _ (run : Run) (times : Option (List ℕ)) (mount : Stored) (start end : S
       let now : IsSoundAt (moment_after Begins c) = sound_after Begins c (legal_first Begins c ((g.0 ++ z.upto) ++ z.rest) (subst (IsLawful Begins.state) split right.leads.lawful)) sound_begins in
       let room = a.named now.shape.tree now.shape.told in
       let then_named = stays_to none c (g.0 ++ z.upto) z.rest split k name (record { tree = now.shape.tree; told = now.shape.told; room = room.room; there = room.has_room; is = room.named }) in
-      in_list none t names says two.reader_then two.writing_then two.other z k name apart (subst (λ es. HasName (moment_after Begins es).state k name) (sym there) then_named)
+      in_list two.other names z k name apart (subst (λ es. HasName (moment_after Begins es).state k name) (sym there) then_named)
 
   lists_so : (t : Told) (names : List Name) → Says run t (line.Listed names) → ListsAll run t names
   lists_so t names says =
@@ -250,11 +257,6 @@ module _ (run : Run) (times : Option (List ℕ)) (mount : Stored) (start end : S
         stood = λ none name at apart. stood_so none t names says (reader_at run t) (writing_at run t) l z name at apart;
         spoken = λ none s name is_line speaks sooner apart. spoken_so none t names says s name is_line speaks sooner apart;
       }
-    where
-      unmarked_so : (xs : List Name) → AllByRecursion IsLogicalName xs → Among marks_name xs → ⊥
-      unmarked_so [] all at = absurd at
-      unmarked_so (x ∷ xs) all (inl same) = not_marks x all.0 (sym same)
-      unmarked_so (x ∷ xs) all (inr at) = unmarked_so xs all.1 at
 
   -- the law of this file
   pub names_are_listed : HasListed run

@@ -38,6 +38,7 @@ use Rattle.headline.specs.Changes.{writing_at}
 use Rattle.headline.specs.Readers.{HasOld}
 use Rattle.headline_laws.proofs.OrderlyLines.Answering.{printed_there}
 use Rattle.headline_laws.proofs.Story.Lines.{container, line_here}
+use Rattle.headline_laws.proofs.Story.Namings.{story_of}
 use Rattle.headline_laws.proofs.Trees.Reading.{grows_to, lawful_to, reader_line}
 use Rattle.headline_laws.proofs.Trees.Still.{Led, all_last, file_of, mounting_keeps, told_before, written}
 
@@ -143,5 +144,5 @@ module _ (run : Run) (times : Option (List ℕ)) (opened : Stored) (start end : 
       (found_any (λ (c : WriterCount). (c.writer ≡ id) × (c.count ≡ length (landed_writes run.before n host id))) (printed_cut file.cut) (record { writer = g.0.dropping.writer; count = g.0.count }) (printed_there file.cut g.0 g.1 (omega (arith, some, count)))
       (ap (λ (x : Dropping). x.writer) g.2, count))
 
-  pub old_seen : HasOld run (record { namings = []; of = container run Begin end fits sound_begin right })
+  pub old_seen : HasOld run (story_of run Begin end fits sound_begin right)
   old_seen = record { truncs = trunc_seen; writers = writer_seen }

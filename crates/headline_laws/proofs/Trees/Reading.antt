@@ -40,6 +40,7 @@ use Rattle.headline_laws.proofs.OrderlyLines.Answering.{printed_there}
 use Rattle.headline_laws.proofs.Story.Entered.{entered_once}
 use Rattle.headline_laws.proofs.Statements.Known.{HasEntered, IsNotOpened, entered_more, opens_entered, ReadsIn, writer_step}
 use Rattle.headline_laws.proofs.Story.Lines.{AnyLine, TwoHere, container, line_here, reads_in, room_of, two_here}
+use Rattle.headline_laws.proofs.Story.Namings.{story_of}
 use Rattle.headline_laws.proofs.Trees.Marked.{made_trunc}
 use Rattle.headline_laws.proofs.Trees.Printed.{IsCounted, ids_rise, printed_all, stamps_rise}
 use Rattle.headline_laws.proofs.Trees.Still.{file_of}
@@ -355,7 +356,7 @@ module _ (run : Run) (m : Moment) (end : State) (fits : FitsScript run.script) (
     )
 
     -- what the line tells of its container
-    sees_what : run.in_order ≡ false → (t : Told) (size : ℕ) (cut : List WriterCount) (truncs : List Trunc) → Says run t (line.Reader size cut truncs) → SeesWhatWasTold run (record { namings = []; of = Of }) t cut truncs
+    sees_what : run.in_order ≡ false → (t : Told) (size : ℕ) (cut : List WriterCount) (truncs : List Trunc) → Says run t (line.Reader size cut truncs) → SeesWhatWasTold run (story_of run m end fits sound right) t cut truncs
     sees_what free t size cut truncs says =
         let l = line_here run m end fits sound right t says.is_line in
         let z = reader_line (reader_at run t) (writing_at run t) t l size cut truncs says.says in
@@ -376,5 +377,5 @@ module _ (run : Run) (m : Moment) (end : State) (fits : FitsScript run.script) (
           refreshed = λ former asked had. (let r = z.so.refreshes asked in z.in_room ∙ r.2 ∙ sym (l.line.known.reads former had r.0 r.1));
         }
 
-    pub readers_told : run.in_order ≡ false → HasReaders run (record { namings = []; of = Of })
+    pub readers_told : run.in_order ≡ false → HasReaders run (story_of run m end fits sound right)
     readers_told free = record { sees = sees_what free }

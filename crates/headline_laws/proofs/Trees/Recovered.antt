@@ -1,6 +1,6 @@
 -- What the line of a recovery says: those that were taken out are gone, just what was told of them has landed, they are writers of the container, and none is left of the tree before.
 use Rattle.std.proofs.Common.{◌≡◌, ◌⊎◌, ◌≤◌, ◌<◌, inl, inr, ℕ, Bool, true, false, List, [], ◌∷◌, ◌++◌, length, map, get_or, Option, Some, None, refl, sym, ap, ◌∙◌, subst, arith, append_assoc, ◌+◌, zero, suc, nat_eq, length-append, if◌then◌else◌}
-use Rattle.std.specs.List.{All, AllByRecursion}
+use Rattle.std.specs.List.{All, AllByRecursion, Any}
 use Rattle.std.proofs.lemmas.List.{append-nil, length-map}
 use Rattle.std.proofs.lemmas.List.Elements.{All-from_recursion}
 use Rattle.std.specs.Prelude.{slice_get}
@@ -8,7 +8,7 @@ use Rattle.std.proofs.lemmas.Bool.Decides.{nat_tests}
 use Rattle.plfs_types.specs.declared.entries.WriterCount.{WriterCount}
 use Rattle.container_layout.specs.declared.items.Item.{Item}
 use Rattle.container_layout.specs.declared.items.Item.TheVariants.{Index, Log, OpenHost}
-use Rattle.container_layout.specs.Paths.{openhosts, path_of}
+use Rattle.container_layout.specs.Paths.{IsIn, openhosts, path_of}
 use Rattle.container_layout.proofs.Facts.{elsewhere}
 use Rattle.container_layout.specs.Items.{IsItem}
 use Rattle.plain_file.proofs.Facts.{Among}
@@ -39,7 +39,7 @@ use Rattle.mount_sound.specs.Sound.{IsSoundTree}
 use Rattle.mount_sound.proofs.Facts.{is_open}
 use Rattle.reader_laws.specs.Gathering.{Gathered}
 use Rattle.reader_laws.specs.Moments.{Dropping, HadItem, IsNamed, IsSoundAt, Moment, Stood, file_in_room, file_told, index_then, landed, landed_by, log_then, moment_after, next_moment}
-use Rattle.reader_laws.proofs.Gathered.Facts.{all_at, among, folder_listed, is_among, landed_whole, legal_first, legal_rest, moment-append, sound_after}
+use Rattle.reader_laws.proofs.Gathered.Facts.{all_at, among, any_found, folder_listed, found_any, is_among, landed_whole, legal_first, legal_rest, moment-append, sound_after}
 use Rattle.reader_laws.proofs.Gathered.Moments.Stepping.{sound_next}
 use Rattle.script_lang.specs.Ranges.{FitsScript}
 use Rattle.script_lang.specs.declared.line.Outcome.{Outcome}
@@ -51,7 +51,7 @@ use Rattle.actor_core.specs.Endings.{Ending}
 use Rattle.run_core.specs.Play.{IsRight}
 use Rattle.headline_laws.specs.OneFile.{OneFile}
 use Rattle.headline_laws.specs.OneWriter.{OneWriter}
-use Rattle.headline_laws.specs.Recovering.{AreTold, IsBuried, IsFoundLive, IsLive, NumbersRise, RecoversFile, RecoversHold, RecoversWriters}
+use Rattle.headline_laws.specs.Recovering.{AreTold, IsBuried, IsFoundLive, IsLive, IsOpenName, NumbersRise, RecoversFile, RecoversHold, RecoversWriters}
 use Rattle.headline_laws.specs.Showing.{Shows}
 use Rattle.headline.specs.Run.{IsLine, Run, Says, Told, before, so_far, surely_before, told}
 use Rattle.headline.specs.Trees.{Has, bytes_in, landed_in, landed_writes, log_in, logged_write, or_none}
@@ -185,7 +185,7 @@ taken_out m sound n earlier front rest lawful room names b drawn i =
 
 -- ---- who is told
 
-each_among : {X : Type 0} (P : X → Type 0) (xs : List X) → ((x : X) → Among x xs → P x) → AllByRecursion P xs
+pub each_among : {X : Type 0} (P : X → Type 0) (xs : List X) → ((x : X) → Among x xs → P x) → AllByRecursion P xs
 each_among P [] each = tt
 each_among P (x ∷ xs) each = (each x (inl refl), each_among P xs (λ y at. each y (inr at)))
 
@@ -201,6 +201,15 @@ told_one id (x ∷ xs) buried alive (inl (told, others, its, is, more)) (inr at)
 told_one id (x ∷ xs) buried alive (inr (others, is, more)) (inr at) = elim (told_one id xs buried others more at) as (λ _. ((b : WriterCount) × Among b buried × (b.writer ≡ id)) ⊎ Among id alive) [
   | inl found ↦ inl found
   | inr there ↦ inr (subst (Among id) (sym is) (inr there))
+]
+
+-- who is told as alive had it open
+alive_among : (id : ℕ) (writers : List ℕ) (buried : List WriterCount) (alive : List ℕ) → AreTold writers buried alive → Among id alive → Among id writers
+alive_among id [] buried alive (none, nobody) at = absurd (subst (Among id) nobody at)
+alive_among id (x ∷ xs) buried alive (inl (told, others, its, is, more)) at = inr (alive_among id xs others alive more at)
+alive_among id (x ∷ xs) buried alive (inr (others, is, more)) at = elim (subst (Among id) is at) as (λ _. Among id (x ∷ xs)) [
+  | inl same ↦ inl same
+  | inr there ↦ inr (alive_among id xs buried others more there)
 ]
 
 -- ---- a line
@@ -312,7 +321,43 @@ module _ (run : Run) (times : Option (List ℕ)) (mount : Stored) (start end : S
       let later = away_later (moment_after Begins x) gap.0 d named (sound_after Begins x (legal_first Begins x (gap.0 ++ ys) lawful) sound_begins) (legal_first (moment_after Begins x) gap.0 ys (legal_rest Begins x (gap.0 ++ ys) lawful)) a in
       subst (λ m. IsAway m d) (sym (ap (moment_after Begins) gap.1 ∙ moment-append Begins x gap.0)) later
 
+  -- nobody has the number of an entry that stood at first in the table, then and later
+  pub never_live : (n host id : ℕ) → HadItem Begins n (OpenHost host id) → (events rest : List Event) → right.history ≡ events ++ rest → IsLive (moment_after Begins events).state id → ⊥
+  never_live n host id begins events rest is live =
+      let d : Dropping = record { room = n; host = host; writer = id } in
+      let out : IsOut Begins d = record { named = record { in_range = tt; widths = (begins.is_item.widths.0, begins.is_item.widths.1) }; sound = sound_begins; dead = dead; drawn = entry_drawn Begins sound_begins n host id begins } in
+      let later = out_later Begins events d out (legal_first Begins events rest (subst (IsLawful Begins.state) is right.leads.lawful)) in
+      let none : is_live live.0.stage ≡ false = later.0.dead live.0 live.1 in
+      let clash : true ≡ false = sym live.2 ∙ none in
+      absurd (cc)
+    where
+      dead : IsNotLive Begins.state id
+      dead row e = let none : row_of id [] ≡ Some row = ap (λ rows. row_of id rows) (sym mounted.no_writers) ∙ e in absurd (cc)
+
   -- ---- the line
+
+  -- the writer's entry stood at a moment of the line's part
+  pub record StoodIn (t : Told) (host id : ℕ) (r : Option Told) (w : Writing) (l : AnyLine run Begins end fits sound_begins right r w t) : Type 0 where
+    pub es : List Event
+    pub rest : List Event
+    pub all : right.history ≡ es ++ rest
+    pub behind : length l.line.part.earlier ≤ length es
+    pub within : length es ≤ length l.line.part.earlier + length l.line.part.mine
+    pub entry : HadItem (moment_after Begins es) (HomeOf t) (OpenHost host id)
+
+  -- one that was live behind that
+  pub record LivedIn (t : Told) (id : ℕ) (r : Option Told) (w : Writing) (l : AnyLine run Begins end fits sound_begins right r w t) : Type 0 where
+    pub host : ℕ
+    pub stood_in : StoodIn t host id r w l
+    pub found : List Event
+    pub more : List Event
+    pub found_is : right.history ≡ found ++ more
+    pub live : IsLive (moment_after Begins found).state id
+
+  -- one that was taken out, under a host that the format has
+  pub record TakenSo (t : Told) (b : WriterCount) : Type 0 where
+    pub takes : TakesOut run Homes t b
+    pub is_item : IsItem (OpenHost takes.host b.writer)
 
   module _ (t : Told) (out : List WriterCount) (alive : List ℕ) (hold : Bool) (says : Says run t (line.Recovered out alive hold)) where
     -- however the lines of its actor are split
@@ -434,6 +479,10 @@ module _ (run : Run) (times : Option (List ℕ)) (mount : Stored) (start end : S
             let b = ap length l.line.shown.split ∙ length-append front l.line.shown.rest in
             let c = ap length x.split ∙ length-append x.earlier (x.listing ∷ x.later) in
             omega (arith, a, b, c)
+
+        -- its moment is one of the line's part
+        stood_at : (host id : ℕ) → HadItem At (HomeOf t) (OpenHost host id) → StoodIn t host id r w l
+        stood_at host id had = record { es = till; rest = x.listing ∷ (x.later ++ behind); all = till_split; behind = (let long = length-append l.line.part.earlier x.earlier in omega (arith, long)); within = till_short; entry = had }
 
         line_long : length l.line.part.earlier + length l.line.part.mine ≤ length right.history
         line_long = let a = ap length l.line.part.split ∙ length-append l.line.part.earlier (l.line.part.mine ++ l.line.part.later) in let b = length-append l.line.part.mine l.line.part.later in omega (arith, a, b)
@@ -561,6 +610,26 @@ module _ (run : Run) (times : Option (List ℕ)) (mount : Stored) (start end : S
             ]
           ]
 
+          -- ---- who is told as alive was listed, and found live behind that
+
+          its_name : (id : ℕ) → Among id alive → (host : ℕ) × Any (λ name. IsIn openhosts name (OpenHost host id)) v.names
+          its_name id at =
+              let f = any_found (λ name. IsOpenName name id) v.names (all_at (λ writer. Any (λ name. IsOpenName name writer) v.names) v.writers id v.were_open.named (alive_among id v.writers out alive v.each at)) in
+              (f.2.0, found_any (λ name. IsIn openhosts name (OpenHost f.2.0 id)) v.names f.0 f.1 f.2.1)
+
+          lived_then : (id : ℕ) → Among id alive → LivedIn t id r w l
+          lived_then id at =
+              let n = its_name id at in
+              let g = all_at (λ writer. IsFoundLive Begins l.number (record { before = upto; events = x.later }) writer) alive id v.found_live at in
+              record {
+                host = n.0;
+                stood_in = stood_at n.0 id (named_stood At sound_at (HomeOf t) v.names lists n.0 id n.1);
+                found = upto ++ g.earlier;
+                more = g.inspecting ∷ g.later ++ behind;
+                found_is = upto_split ∙ ap (λ z. upto ++ (z ++ behind)) g.split ∙ ap (λ z. upto ++ z) (append_assoc g.earlier (g.inspecting ∷ g.later) behind) ∙ sym (append_assoc upto g.earlier (g.inspecting ∷ g.later ++ behind));
+                live = g.live;
+              }
+
           -- ---- none is left of the tree before
 
           module _ (host id : ℕ) (is_item : IsItem (OpenHost host id)) (had : Has run.before (HomeOf t) (OpenHost host id)) where
@@ -570,26 +639,12 @@ module _ (run : Run) (times : Option (List ℕ)) (mount : Stored) (start end : S
             drawn_first : id ≤ last_id Begins.state
             drawn_first = entry_drawn Begins sound_begins (HomeOf t) host id begins
 
-            -- nobody has its number in the table, then and later
-            never_live : (events rest : List Event) → right.history ≡ events ++ rest → IsLive (moment_after Begins events).state id → ⊥
-            never_live events rest is live =
-                let d : Dropping = record { room = HomeOf t; host = host; writer = id } in
-                let out : IsOut Begins d = record { named = record { in_range = tt; widths = (is_item.widths.0, is_item.widths.1) }; sound = sound_begins; dead = dead; drawn = drawn_first } in
-                let later = out_later Begins events d out (legal_first Begins events rest (subst (IsLawful Begins.state) is right.leads.lawful)) in
-                let none : is_live live.0.stage ≡ false = later.0.dead live.0 live.1 in
-                let clash : true ≡ false = sym live.2 ∙ none in
-                absurd (cc)
-              where
-                dead : IsNotLive Begins.state id
-                dead row e = let none : row_of id [] ≡ Some row = ap (λ rows. row_of id rows) (sym mounted.no_writers) ∙ e in absurd (cc)
-
             gone_after : Has run.after (HomeOf t) (OpenHost host id) → ⊥
             gone_after left_there =
                 let rise = drawn_later Begins till (legal_first Begins till (x.listing ∷ (x.later ++ behind)) (subst (IsLawful Begins.state) till_split right.leads.lawful)) in
                 let first = drawn_first in
-                let at = named_so host id (omega (arith, first, rise)) right.history [] (sym (append-nil right.history)) line_long (had_last (HomeOf t) (OpenHost host id) is_item left_there) in
-                let g = all_at (λ writer. IsFoundLive Begins l.number (record { before = upto; events = x.later }) writer) alive id v.found_live at in
-                never_live (upto ++ g.earlier) (g.inspecting ∷ g.later ++ behind) (upto_split ∙ ap (λ z. upto ++ (z ++ behind)) g.split ∙ ap (λ z. upto ++ z) (append_assoc g.earlier (g.inspecting ∷ g.later) behind) ∙ sym (append_assoc upto g.earlier (g.inspecting ∷ g.later ++ behind))) g.live
+                let lived = lived_then id (named_so host id (omega (arith, first, rise)) right.history [] (sym (append-nil right.history)) line_long (had_last (HomeOf t) (OpenHost host id) is_item left_there)) in
+                never_live (HomeOf t) host id begins lived.found lived.more lived.found_is lived.live
 
         -- where there was no folder to be listed, no entry stood, and none is left whose number was drawn by then
         none_so : x.listing.reply ≡ reply.Looked NoFolder → (host id : ℕ) → id ≤ last_id At.state → (z zs : List Event) → right.history ≡ z ++ zs → length till ≤ length z → HadItem (moment_after Begins z) (HomeOf t) (OpenHost host id) → ⊥
@@ -694,6 +749,47 @@ module _ (run : Run) (times : Option (List ℕ)) (mount : Stored) (start end : S
         by (x, inl (none, v)) = gone_all r w l x v b (is_buried r w l x v b at) host z zs is far had
         by (x, inr (nobody, none, no_one)) = subst (Among b) none at
 
+    -- who was taken out had an entry then, and who is told as alive had one
+    pub taken_stood : (b : WriterCount) → Among b out → (r : Option Told) (w : Writing) (l : AnyLine run Begins end fits sound_begins right r w t) → (host : ℕ) × StoodIn t host b.writer r w l
+    taken_stood b at r w l = by (lists_so r w l)
+      where
+        by : (x : Listing r w l) × TellsSo r w l x out alive hold → (host : ℕ) × StoodIn t host b.writer r w l
+        by (x, inl (none, v)) = let i = is_buried r w l x v b at in (i.burial.host, stood_at r w l x i.burial.host b.writer (stood_then r w l x v b i))
+        by (x, inr (nobody, none, no_one)) = absurd (subst (Among b) none at)
+
+    pub alive_lived : (id : ℕ) → Among id alive → (r : Option Told) (w : Writing) (l : AnyLine run Begins end fits sound_begins right r w t) → LivedIn t id r w l
+    alive_lived id at r w l = by (lists_so r w l)
+      where
+        by : (x : Listing r w l) × TellsSo r w l x out alive hold → LivedIn t id r w l
+        by (x, inl (none, v)) = lived_then r w l x v id at
+        by (x, inr (nobody, none, no_one)) = absurd (subst (Among id) no_one at)
+
+    -- ---- what it tells of each that it took out
+
+    pub taken_each : run.in_order ≡ false → (b : WriterCount) → Among b out → TakenSo t b
+    taken_each free b at = by (lists_so (reader_at run t) (writing_at run t) here)
+      where
+        by : (x : Listing (reader_at run t) (writing_at run t) here) × TellsSo (reader_at run t) (writing_at run t) here x out alive hold → TakenSo t b
+        by (x, inr (nobody, none, no_one)) = absurd (subst (Among b) none at)
+        by (x, inl (no_hold, v)) =
+            let i = is_buried (reader_at run t) (writing_at run t) here x v b at in
+            let d : Dropping = d_of (reader_at run t) (writing_at run t) here x v b i in
+            let k : IsTakenOut Ends d b.count = taken_last (reader_at run t) (writing_at run t) here x v b i in
+            let entry : HadItem (At (reader_at run t) (writing_at run t) here x) (HomeOf t) (OpenHost i.burial.host b.writer) = stood_then (reader_at run t) (writing_at run t) here x v b i in
+            record {
+              takes = record {
+                host = i.burial.host;
+                gone = λ open_by is_item still. gone_all (reader_at run t) (writing_at run t) here x v b i open_by right.history [] (sym (append-nil right.history)) (line_long (reader_at run t) (writing_at run t) here x) (had_last (HomeOf t) (OpenHost open_by b.writer) is_item still);
+                spared = λ o is_line home stays. (let e = its_entry o b.writer is_line home stays in gone_all (reader_at run t) (writing_at run t) here x v b i e.0 right.history [] (sym (append-nil right.history)) (line_long (reader_at run t) (writing_at run t) here x) (had_last (HomeOf t) (OpenHost e.0 b.writer) e.1 e.2));
+                dead = λ o is_line opens home early still. never_taken b at (behind_by free o b.writer (record { is_line = is_line; says = opens }) early home still);
+                counted = counted_so free b at;
+                landed = k.count_is ∙ many_told Ends run.after d last_is;
+                its_host = one_host run times mount start end fits mounted tells sound right left (HomeOf t) i.burial.host b.writer (till (reader_at run t) (writing_at run t) here x) (x.listing ∷ (x.later ++ behind (reader_at run t) (writing_at run t) here)) (till_split (reader_at run t) (writing_at run t) here x) entry (before run t) (so_far run t);
+                known = λ some. its_writer t d refl k.named (let is = k.count_is in omega (arith, some, is));
+              };
+              is_item = entry.is_item;
+            }
+
     record RecoveryTells : Type 0 where
       pub rise : IdsRise (map Id out) × IdsRise alive
       pub taken_so : run.in_order ≡ false → All (TakesOut run Homes t) out
@@ -709,25 +805,10 @@ module _ (run : Run) (times : Option (List ℕ)) (mount : Stored) (start end : S
         by : (x : Listing (reader_at run t) (writing_at run t) here) × TellsSo (reader_at run t) (writing_at run t) here x out alive hold → RecoveryTells
         by (x, inl (no_hold, v)) = record {
           rise = told_rise v.writers out alive v.each v.were_open.rise;
-          taken_so = λ free. All-from_recursion (TakesOut run Homes t) out (each_among (TakesOut run Homes t) out (λ b at. taken free b at (is_buried (reader_at run t) (writing_at run t) here x v b at)));
+          taken_so = λ free. All-from_recursion (TakesOut run Homes t) out (each_among (TakesOut run Homes t) out (λ b at. (taken_each free b at).takes));
           held = λ holds. absurd (not_both hold no_hold holds);
           none_left = λ host id is_item had. gone_after (reader_at run t) (writing_at run t) here x v host id is_item had;
         }
-          where
-            taken : run.in_order ≡ false → (b : WriterCount) → Among b out → Buried (reader_at run t) (writing_at run t) here x v b → TakesOut run Homes t b
-            taken free b at i =
-                let d : Dropping = d_of (reader_at run t) (writing_at run t) here x v b i in
-                let k : IsTakenOut Ends d b.count = taken_last (reader_at run t) (writing_at run t) here x v b i in
-                record {
-                  host = i.burial.host;
-                  gone = λ open_by is_item still. gone_all (reader_at run t) (writing_at run t) here x v b i open_by right.history [] (sym (append-nil right.history)) (line_long (reader_at run t) (writing_at run t) here x) (had_last (HomeOf t) (OpenHost open_by b.writer) is_item still);
-                  spared = λ o is_line home stays. (let e = its_entry o b.writer is_line home stays in gone_all (reader_at run t) (writing_at run t) here x v b i e.0 right.history [] (sym (append-nil right.history)) (line_long (reader_at run t) (writing_at run t) here x) (had_last (HomeOf t) (OpenHost e.0 b.writer) e.1 e.2));
-                  dead = λ o is_line opens home early still. never_taken b at (behind_by free o b.writer (record { is_line = is_line; says = opens }) early home still);
-                  counted = counted_so free b at;
-                  landed = k.count_is ∙ many_told Ends run.after d last_is;
-                  its_host = one_host run times mount start end fits mounted tells sound right left (HomeOf t) i.burial.host b.writer (till (reader_at run t) (writing_at run t) here x) (x.listing ∷ (x.later ++ behind (reader_at run t) (writing_at run t) here)) (till_split (reader_at run t) (writing_at run t) here x) (stood_then (reader_at run t) (writing_at run t) here x v b i) (before run t) (so_far run t);
-                  known = λ some. its_writer t d refl k.named (let is = k.count_is in omega (arith, some, is));
-                }
         by (x, inr (nobody, none, no_one)) = record {
           rise = (subst (λ b. IdsRise (map Id b)) (sym none) tt, subst IdsRise (sym no_one) tt);
           taken_so = λ free. All-from_recursion (TakesOut run Homes t) out (subst (AllByRecursion (TakesOut run Homes t)) (sym none) tt);

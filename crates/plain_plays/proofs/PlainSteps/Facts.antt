@@ -1,5 +1,8 @@
 -- What other crates may cite of this crate's proofs.
 pub use Rattle.plain_plays.proofs.PlainSteps.Burying.Whole.{recover_takes}
+pub use Rattle.plain_plays.proofs.PlainSteps.ByItself.Idling.{idle_mirrors}
+pub use Rattle.plain_plays.proofs.PlainSteps.ByItself.Migrating.{migrates_itself}
+pub use Rattle.plain_plays.proofs.PlainSteps.ByItself.Opened.{opens_itself}
 pub use Rattle.plain_plays.proofs.PlainSteps.ByName.Cutting.{truncate_takes}
 pub use Rattle.plain_plays.proofs.PlainSteps.ByName.Naming.{names_take}
 pub use Rattle.plain_plays.proofs.PlainSteps.ByName.Renaming.{rename_takes}

@@ -76,9 +76,11 @@ still_on way times before script lines after start end made play left told tree 
 
 pub story_on : (way : Way) (times : Option (List ℕ)) (before : Stored) (script : Script) (lines : List Line) (after : Stored) (start end : State) → FitsScript script → IsMounted 0 times before start → HasLines way script start lines end → after ≡ end.store → TellsStory times before script lines after
 story_on by_turns times before script lines after start end fits made play left told tree later is_before is_after =
-    play_has_story (seen_run times before script lines after tree later) before start end fits made is_before (sound_tree before tree told is_before) play (ap (λ (s : Stored). s.tree) (sym left) ∙ is_after) refl
+    play_has_story (seen_run times before script lines after tree later) before start end fits made is_before (sound_tree before tree told is_before) play (ap (λ (s : Stored). s.tree) (sym left) ∙ is_after) refl (mounting_keeps times before start made)
+    (ap (λ (s : Stored). s.faults) (sym left))
 story_on on_threads times before script lines after start end fits made right left told tree later is_before is_after =
-    has_story (seen_run times before script lines after tree later) before start end fits made is_before (sound_tree before tree told is_before) right (ap (λ (s : Stored). s.tree) (sym left) ∙ is_after) refl
+    has_story (seen_run times before script lines after tree later) before start end fits made is_before (sound_tree before tree told is_before) right (ap (λ (s : Stored). s.tree) (sym left) ∙ is_after) refl (mounting_keeps times before start made)
+    (ap (λ (s : Stored). s.faults) (sym left))
 
 -- ---- a plain machine says the lines
 

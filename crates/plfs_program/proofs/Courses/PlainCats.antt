@@ -44,6 +44,8 @@ use Rattle.plfs_program.specs.Ways.{by_turns, on_threads}
 use Rattle.plfs_program.proofs.Courses.PlainMounts.{sound_says}
 use Rattle.plfs_program.proofs.Courses.PlainRuns.{lines_plain, never_unmounted, none_some}
 use Rattle.plfs_program.proofs.SingleRuns.Cats.{Told, stuck, told_so, unopened, whole}
+use Rattle.plfs_program.proofs.SingleRuns.Quiet.{cat_quiet}
+use Rattle.plfs_program.proofs.SingleRuns.Twice.{calm_of}
 use Rattle.plfs_program.proofs.Streams.Slices.{AreSlices, slices_whole}
 use Rattle.plfs_program.proofs.Streams.Words.{one_command}
 
@@ -132,10 +134,10 @@ cat_so name count p opened reads after has said =
     let (next, (declared, a, at, there, number, opens), rest) = takes in
     record { next = next; last = said.says.last; number = number; opens = opens_so name p next opened.outcome a has there opens; rest = rest }
 
-missing_file : (name : List ℕ) (p : Plain) → find p name ≡ None → file_named p name ≡ None
+pub missing_file : (name : List ℕ) (p : Plain) → find p name ≡ None → file_named p name ≡ None
 missing_file name p missing = ap (file_under p) missing
 
-found_file : (name : List ℕ) (p : Plain) (number : ℕ) (room : PlainRoom) → find p name ≡ Some number → slice_get p.rooms number ≡ Some room → file_named p name ≡ Some (file_of number room)
+pub found_file : (name : List ℕ) (p : Plain) (number : ℕ) (room : PlainRoom) → find p name ≡ Some number → slice_get p.rooms number ≡ Some room → file_named p name ≡ Some (file_of number room)
 found_file name p number room found stands = ap (file_under p) found ∙ ap (λ (r : Option PlainRoom). option_map (file_of number) r) stands
 
 module _ (name : List ℕ) (p : Plain) (taking taking_after : Taking) (status : ℕ) where
@@ -221,18 +223,18 @@ no_reader opened reads size some only =
     let e : None ≡ Some size = sym (ap (λ (line : Line). reader_size line.outcome) first) ∙ some in
     cc
 
-told_plainly : (given after : Given) (name : List ℕ) (e : Ends) (status : ℕ) → HadNoTrouble given after e → Told name e status → IsWrittenPlainly name e status
+told_plainly : (given after : Given) (name : List ℕ) (e : Ends) (status : ℕ) → HadNoTrouble given after e → Told name e status [] → IsWrittenPlainly name e status
 told_plainly given after name e status quiet (unopened line r none text is) =
-    plainly_so name e status 0 (line ∷ []) r (quiet.store r.played.after r.played.left)
-    (λ p has said. let c = cat_so name 0 p line [] r.played.after has said in none_so name p e.taking e.taking_after status line c.next c.number none text is c.opens)
+    plainly_so name e status 0 (line ∷ []) r.out (quiet.store r.out.played.after r.out.played.left)
+    (λ p has said. let c = cat_so name 0 p line [] r.out.played.after has said in none_so name p e.taking e.taking_after status line c.next c.number none text is c.opens)
     (λ only. (subst (λ ls. IsPrinted (text_of ls) e.taking e.taking_after) only text, is ∙ ap status_of only))
 told_plainly given after name e status quiet (whole opened reads size some r all text is) =
-    plainly_so name e status (pieces_of size) (opened ∷ reads) r (quiet.store r.played.after r.played.left)
-    (λ p has said. let c = cat_so name (pieces_of size) p opened reads r.played.after has said in all_so name p e.taking e.taking_after status opened reads size c.next c.last some text is c.rest c.opens)
+    plainly_so name e status (pieces_of size) (opened ∷ reads) r.out (quiet.store r.out.played.after r.out.played.left)
+    (λ p has said. let c = cat_so name (pieces_of size) p opened reads r.out.played.after has said in all_so name p e.taking e.taking_after status opened reads size c.next c.last some text is c.rest c.opens)
     (λ only. absurd (no_reader opened reads size some only))
 told_plainly given after name e status quiet (stuck opened reads last size some few r all not text is) =
-    plainly_so name e status (length reads + 1) (opened ∷ (reads ++ last ∷ [])) r (quiet.store r.played.after r.played.left)
-    (λ p has said. let c = cat_so name (length reads + 1) p opened (reads ++ last ∷ []) r.played.after has said in stuck_so name p e.taking e.taking_after status opened reads last size (length reads + 1) c.next c.last some not c.rest c.opens)
+    plainly_so name e status (length reads + 1) (opened ∷ (reads ++ last ∷ [])) r.out (quiet.store r.out.played.after r.out.played.left)
+    (λ p has said. let c = cat_so name (length reads + 1) p opened (reads ++ last ∷ []) r.out.played.after has said in stuck_so name p e.taking e.taking_after status opened reads last size (length reads + 1) c.next c.last some not c.rest c.opens)
     (λ only. absurd (no_reader opened (reads ++ last ∷ []) size some only))
 
 -- ---- what the words ask for
@@ -257,7 +259,8 @@ module _ (given after : Given) (e : Ends) (status : ℕ) (quiet : HadNoTrouble g
   course_cats (planned asked plan other has same course) = absurd (none_some plan (subst (λ c. IsPlanned c plan) (one_command words asked (command.Cat name) other is) has))
   course_cats (cats also other same course) =
       let one : also ≡ name = named also name (one_command words (command.Cat also) (command.Cat name) other is) in
-      told_plainly given after name e status quiet (told_so given after name e status quiet fed (subst (λ n. CatCourse n e status) one course))
+      let its : CatCourse name e status = subst (λ n. CatCourse n e status) one course in
+      told_plainly given after name e status quiet (told_so given after name e status [] (calm_of given after e quiet) its (cat_quiet given after e quiet name status fed its))
   course_cats (migrates also other same course) = absurd (other_words (command.Migrate also) other)
   course_cats (packs_unread also region other risen kept same five) = absurd (quiet.source risen)
   course_cats (packs also region input other whole_input course) = absurd (other_words (command.Pack also region) other)

@@ -25,6 +25,7 @@ use Rattle.script_lang.specs.declared.line.Outcome.TheVariants as of
 use Rattle.script_lang.specs.declared.line.Why.TheVariants.{MountsSpent}
 use Rattle.script_lang.specs.declared.script.Script.{Script}
 use Rattle.step_laws.proofs.Facts.{mounts_one}
+use Rattle.plain_machine.specs.Machine.{Plain}
 use Rattle.plain_plays.specs.OverStores.{MountsAs, TellsOfOne, TellsPlainly, as_mounted}
 use Rattle.plain_plays.specs.Saying.{BeginsPlainly}
 use Rattle.plain_plays.proofs.Facts.{IsBroken, machine_begins}
@@ -83,30 +84,36 @@ breaks_off opened left tree trouble.Spent told sound next failed = absurd (spent
 breaks_off opened left tree trouble.Fault told sound next failed = inl refl
 breaks_off opened left tree trouble.NoMemory told sound next failed = inr refl
 
+-- A plain machine begins with each mount of a store that has a sound tree, and was mounted once.
+pub mounts_as : (script : Script) (times : Option (List ℕ)) (before : Stored) (start : State) → TellsSoundTree before → IsMounted 0 times before start → (p : Plain) × MountsAs script times before p
+mounts_as script times before start (tree, told, sound) made =
+    let found = machine_begins script 0 times before tree start told sound made in (
+      found.machine,
+      record {
+        mounts = λ why left failed. breaks_off before left tree why told sound (has_next 0 times before start made tree told) failed;
+        begins = λ other again. subst (λ s. BeginsPlainly script s found.machine) (mounts_one 0 times before start other (record { tree = tree; tree_is = told }) made again) found.begins;
+      },
+    )
+
 -- The lines of a run whose mounting went well.
 one_says : (script : Script) (times : Option (List ℕ)) (before after : Stored) (lines : List Line) (start : State) → TellsSoundTree before → IsMounted 0 times before start → TellsPlainly script times before lines after → TellsOfOne script times before lines after
-one_says script times before after lines start (tree, told, sound) made says plain =
-    let found = machine_begins script 0 times before tree start told sound made in
-    let begins : MountsAs script times before found.machine = record {
-      mounts = λ why left failed. breaks_off before left tree why told sound (has_next 0 times before start made tree told) failed;
-      begins = λ other again. subst (λ s. BeginsPlainly script s found.machine) (mounts_one 0 times before start other (record { tree = tree; tree_is = told }) made again) found.begins;
-    } in
-    record { machine = found.machine; begins = begins; says = says plain found.machine (as_mounted begins) }
+one_says script times before after lines start sound made says plain =
+    let (p, begins) = mounts_as script times before start sound made in
+    record { machine = p; begins = begins; says = says plain p (as_mounted begins) }
 
 -- ---- the lines
 
-broke_off : (script : Script) (times : Option (List ℕ)) (before after : Stored) (lines : List Line) (why : MountTrouble) (outcome : Outcome) (tree : Tree) → before.tree ≡ Some tree → IsSoundTree tree → FailsToMount before why after → unmounted_of why ≡ Some outcome → lines ≡ line_zero outcome ∷ [] → (outcome ≡ of.Fault → ⊥)
-    → SaysOverSound script times before lines after
-broke_off script times before after lines (trouble.Damaged file) outcome tree told sound failed says only quiet = absurd (no_damage before after (trouble.Damaged file) (of.Damaged marks_folder file 0) failed refl refl (tree, told, sound))
-broke_off script times before after lines trouble.NoMarks outcome tree told sound failed says only quiet = absurd (no_damage before after trouble.NoMarks (of.Damaged marks_folder [] 0) failed refl refl (tree, told, sound))
-broke_off script times before after lines trouble.Spent outcome tree told sound failed says only quiet =
-    let is : outcome ≡ of.Refused MountsSpent = cc in
-    spent tree told (why_fails before after trouble.Spent failed tree told) (only ∙ ap (λ o. line_zero o ∷ []) is)
-broke_off script times before after lines trouble.Fault outcome tree told sound failed says only quiet = absurd (quiet (let is : outcome ≡ of.Fault = cc in is))
-broke_off script times before after lines trouble.NoMemory outcome tree told sound failed says only quiet = absurd (cc)
+-- only for want of a mark does a mounting of a sound tree break off without a fault
+pub unmarked_so : (before after : Stored) (why : MountTrouble) (outcome : Outcome) (tree : Tree) → before.tree ≡ Some tree → IsSoundTree tree → FailsToMount before why after → unmounted_of why ≡ Some outcome → (outcome ≡ of.Fault → ⊥) → AreSpent (listed_marks tree) × (outcome ≡ of.Refused MountsSpent)
+unmarked_so before after (trouble.Damaged file) outcome tree told sound failed says quiet = absurd (no_damage before after (trouble.Damaged file) (of.Damaged marks_folder file 0) failed refl refl (tree, told, sound))
+unmarked_so before after trouble.NoMarks outcome tree told sound failed says quiet = absurd (no_damage before after trouble.NoMarks (of.Damaged marks_folder [] 0) failed refl refl (tree, told, sound))
+unmarked_so before after trouble.Spent outcome tree told sound failed says quiet = let is : outcome ≡ of.Refused MountsSpent = cc in (why_fails before after trouble.Spent failed tree told, is)
+unmarked_so before after trouble.Fault outcome tree told sound failed says quiet = absurd (quiet (let is : outcome ≡ of.Fault = cc in is))
+unmarked_so before after trouble.NoMemory outcome tree told sound failed says quiet = absurd (cc)
 
 pub sound_says : (script : Script) (times : Option (List ℕ)) (before after : Stored) (lines : List Line) → AreLinesOf by_turns times before after script lines → (has_line is_fault lines ≡ true → HasRisen before.faults after.faults) → (HasRisen before.faults after.faults → ⊥) → TellsPlainly script times before lines after
     → TellsSoundTree before → SaysOverSound script times before lines after
 sound_says script times before after lines (mounted on) cause none plain sound = said (one_says script times before after lines on.start sound on.mounted plain)
 sound_says script times before after lines (unmounted why failed (outcome, told, only)) cause none plain (tree, is, sound) =
-    broke_off script times before after lines why outcome tree is sound failed told only (λ fault. none (cause (ap (λ ls. has_line is_fault ls) (only ∙ ap (λ o. line_zero o ∷ []) fault))))
+    let u = unmarked_so before after why outcome tree is sound failed told (λ fault. none (cause (ap (λ ls. has_line is_fault ls) (only ∙ ap (λ o. line_zero o ∷ []) fault)))) in
+    spent tree is u.0 (only ∙ ap (λ o. line_zero o ∷ []) u.1)

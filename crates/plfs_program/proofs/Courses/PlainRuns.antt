@@ -57,10 +57,14 @@ breaks_off : (before after : Stored) (why : MountTrouble) → FailsToMount befor
 breaks_off before after why failed (inl bare) = of_none why (why_fails before after why failed (record { rooms = [] }) bare)
 breaks_off before after why failed (inr mounts) = mounts why after failed
 
--- a line that was told of it tells of a fault
-tells_fault : (why : MountTrouble) (outcome : Outcome) → IsBroken why → unmounted_of why ≡ Some outcome → has_line is_fault (line_zero outcome ∷ []) ≡ true
-tells_fault why outcome (inl fault) told = let same : Some Fault ≡ Some outcome = sym (ap unmounted_of fault) ∙ told in let is : Fault ≡ outcome = cc in ap (λ o. has_line is_fault (line_zero o ∷ [])) (sym is)
-tells_fault why outcome (inr wants) told = let none : None ≡ Some outcome = sym (ap unmounted_of wants) ∙ told in cc
+-- what is told of it is a fault
+fault_told : (why : MountTrouble) (outcome : Outcome) → IsBroken why → unmounted_of why ≡ Some outcome → outcome ≡ Fault
+fault_told why outcome (inl fault) told = let same : Some Fault ≡ Some outcome = sym (ap unmounted_of fault) ∙ told in let is : Fault ≡ outcome = cc in sym is
+fault_told why outcome (inr wants) told = let none : None ≡ Some outcome = sym (ap unmounted_of wants) ∙ told in absurd (cc)
+
+-- where a machine begins over the store, nothing else is told of a mounting that broke off
+pub only_fault : (script : Script) (times : Option (List ℕ)) (before after : Stored) (why : MountTrouble) (outcome : Outcome) (p : Plain) → BeginsOver script times before p → FailsToMount before why after → unmounted_of why ≡ Some outcome → outcome ≡ Fault
+only_fault script times before after why outcome p begins failed told = fault_told why outcome (breaks_off before after why failed (bare_or_mounts script times before p begins)) told
 
 -- ---- the lines
 
@@ -68,7 +72,7 @@ tells_fault why outcome (inr wants) told = let none : None ≡ Some outcome = sy
 pub never_unmounted : (script : Script) (times : Option (List ℕ)) (before after : Stored) (lines : List Line) (why : MountTrouble) (p : Plain) → BeginsOver script times before p → FailsToMount before why after → IsUnmounted why lines
     → (has_line is_fault lines ≡ true → HasRisen before.faults after.faults) → (HasRisen before.faults after.faults → ⊥) → ⊥
 never_unmounted script times before after lines why p begins failed (outcome, told, only) cause none =
-    none (cause (ap (λ ls. has_line is_fault ls) only ∙ tells_fault why outcome (breaks_off before after why failed (bare_or_mounts script times before p begins)) told))
+    none (cause (ap (λ ls. has_line is_fault ls) only ∙ ap (λ o. has_line is_fault (line_zero o ∷ [])) (only_fault script times before after why outcome p begins failed told)))
 
 pub lines_plain : (script : Script) (times : Option (List ℕ)) (before after : Stored) (lines : List Line) → AreLinesOf by_turns times before after script lines → (has_line is_fault lines ≡ true → HasRisen before.faults after.faults)
     → (HasRisen before.faults after.faults → ⊥) → TellsPlainly script times before lines after

@@ -1,8 +1,6 @@
 -- Two histories from one state go alike, where the store went as one plan says.
-use Rattle.std.proofs.Common.{◌≡◌, ◌≢◌, ℕ, ◌+◌, ◌-◌, inl, inr, Bool, true, false, not, nat_eq, ◌&&◌, if◌then◌else◌, ◌<◌, ◌≤◌, ◌^◌, List, [], ◌∷◌, Option, Some, None, refl, sym, ap, ◌∙◌, subst, arith}
+use Rattle.std.proofs.Common.{◌≡◌, ◌≢◌, ℕ, ◌-◌, ◌<◌, ◌≤◌, ◌^◌, List, [], ◌∷◌, Option, Some, None, refl, sym, ap, ◌∙◌, subst, arith}
 use Rattle.std.specs.Prelude.{map}
-use Rattle.std.proofs.lemmas.Bool.Decides.{nat_tests}
-use Rattle.plfs_types.specs.Counts.{next_count}
 use Rattle.store_api.specs.Acts.{Stored}
 use Rattle.script_lang.specs.declared.line.Line.{Line}
 use Rattle.script_lang.specs.declared.script.Script.{Script}
@@ -31,17 +29,24 @@ planned_one plan a b x y = let e : Some a ≡ Some b = sym x ∙ y in cc
 not_both : (plan : Option Stored) (a : Stored) → plan ≡ None → plan ≡ Some a → ⊥
 not_both plan a x y = let e : None ≡ Some a = sym x ∙ y in cc
 
-alike_of : (plan : FaultPlan) (old new other : Stored) → old.acts < 2 ^ 64 - 1 → GoesAsPlanned plan old new → GoesAsPlanned plan old other → FaultAlike old new other
-alike_of plan old new other room (idle e) b = first_idle room e
-alike_of plan old new other room (well none e) (idle f) = second_idle room f
+-- a store that an idle call left has failed as often as before
+as_often : (old new : Stored) → new ≡ old → new.faults ≡ old.faults
+as_often old new is = ap (λ (s : Stored). s.faults) is
+
+-- Two calls that go as one plan says faulted alike. The count of acts has not come to its end where it says what a fault left.
+pub alike_of : (plan : FaultPlan) (old new other : Stored) → ((left : Stored) → plan old.acts ≡ Some left → old.acts < 2 ^ 64 - 1) → GoesAsPlanned plan old new → GoesAsPlanned plan old other → FaultAlike old new other
+alike_of plan old new other room (idle e) (idle f) = neither (as_often old new e) (as_often old other f)
+alike_of plan old new other room (idle e) (well none f) = neither (as_often old new e) f
+alike_of plan old new other room (idle e) (badly p) = first_idle (room other p) e
+alike_of plan old new other room (well none e) (idle f) = neither e (as_often old other f)
 alike_of plan old new other room (well none e) (well too f) = neither e f
 alike_of plan old new other room (well none e) (badly p) = absurd (not_both (plan old.acts) other none p)
-alike_of plan old new other room (badly p) (idle f) = second_idle room f
+alike_of plan old new other room (badly p) (idle f) = second_idle (room new p) f
 alike_of plan old new other room (badly p) (well none f) = absurd (not_both (plan old.acts) new none p)
 alike_of plan old new other room (badly p) (badly q) = same (planned_one (plan old.acts) new other p q)
 
 -- no count of faults falls
-faults_before : (old : State) (events : List Event) (bound : ℕ) → IsLawful old events → (state_after old events).store.faults < bound → old.store.faults < bound
+pub faults_before : (old : State) (events : List Event) (bound : ℕ) → IsLawful old events → (state_after old events).store.faults < bound → old.store.faults < bound
 faults_before old [] bound lawful less = less
 faults_before old (e ∷ events) bound lawful less =
     let rest = faults_before e.after events bound lawful.2 less in
@@ -49,11 +54,11 @@ faults_before old (e ∷ events) bound lawful less =
     omega (arith, rest, never)
 
 -- one step, which is as it is
-step_tells : (old : State) (e : Event) → TellsAll old → old.store.faults < 2 ^ 64 - 1 → e.reply ≢ NoMemory → IsStep old e.caller e.ask e.reply e.after → AreOne old e.reply e.reply e.after e.after
+pub step_tells : (old : State) (e : Event) → TellsAll old → old.store.faults < 2 ^ 64 - 1 → e.reply ≢ NoMemory → IsStep old e.caller e.ask e.reply e.after → AreOne old e.reply e.reply e.after e.after
 step_tells old e told room memory step = steps_one old e.reply e.reply e.after e.after (record { told = told; room = room; alike = same refl; memory = memory; too = memory }) e.caller e.ask step step
 
 -- nor does the count of acts come back from its end
-acts_before : (old : State) (events : List Event) → TellsAll old → IsLawful old events → HadMemory events → (state_after old events).store.faults < 2 ^ 64 - 1 → (state_after old events).store.acts < 2 ^ 64 - 1 → old.store.acts < 2 ^ 64 - 1
+pub acts_before : (old : State) (events : List Event) → TellsAll old → IsLawful old events → HadMemory events → (state_after old events).store.faults < 2 ^ 64 - 1 → (state_after old events).store.acts < 2 ^ 64 - 1 → old.store.acts < 2 ^ 64 - 1
 acts_before old [] told lawful memory faults acts = acts
 acts_before old (e ∷ events) told lawful memory faults acts =
     let one = step_tells old e told (faults_before old (e ∷ events) (2 ^ 64 - 1) lawful faults) memory.0 lawful.1 in
@@ -96,16 +101,26 @@ go_alike old (e ∷ es) (f ∷ fs) told r low s t =
       λ is. go_alike e.after es fs after_it.tells (rest_of old e es r) low (subst (λ (x : Event). Runs x.after fs) (sym is) (rest_of old f fs s)) (t.1 is),
     )
 
-planned_twins : (plan : FaultPlan) (old : State) (es fs : List Event) → TellsAll old → Runs old es → (state_after old es).store.faults < 2 ^ 64 - 1 → Runs old fs → (state_after old es).store.acts < 2 ^ 64 - 1 → KeepsTo plan old es → KeepsTo plan old fs → Twins FaultsSo old es fs
-planned_twins plan old [] fs told r low s counted k l = tt
-planned_twins plan old (e ∷ es) [] told r low s counted k l = tt
-planned_twins plan old (e ∷ es) (f ∷ fs) told r low s counted k l =
+-- where one is planned to fault, its number is still counted
+abbrev pub AreNumbered : FaultPlan → State → List Event → Type 0
+AreNumbered plan old [] = Unit {0}
+AreNumbered plan old (e ∷ es) = ((left : Stored) → plan old.store.acts ≡ Some left → old.store.acts < 2 ^ 64 - 1) × AreNumbered plan e.after es
+
+all_numbered : (plan : FaultPlan) (old : State) (es : List Event) → TellsAll old → Runs old es → (state_after old es).store.faults < 2 ^ 64 - 1 → (state_after old es).store.acts < 2 ^ 64 - 1 → AreNumbered plan old es
+all_numbered plan old [] told r low counted = tt
+all_numbered plan old (e ∷ es) told r low counted =
     let acts = acts_before old (e ∷ es) told r.lawful r.memory low counted in
     let room = faults_before old (e ∷ es) (2 ^ 64 - 1) r.lawful low in
-    let after_it = step_tells old e told room r.memory.0 r.lawful.1 in (
-      alike_of plan old.store e.after.store f.after.store acts k.0 l.0,
-      λ is. planned_twins plan e.after es fs after_it.tells (rest_of old e es r) low (subst (λ (x : Event). Runs x.after fs) (sym is) (rest_of old f fs s)) counted k.1 (subst (λ (x : Event). KeepsTo plan x.after fs) (sym is) l.1),
-    )
+    let after_it = step_tells old e told room r.memory.0 r.lawful.1 in
+    (λ left planned. acts, all_numbered plan e.after es after_it.tells (rest_of old e es r) low counted)
+
+planned_twins : (plan : FaultPlan) (old : State) (es fs : List Event) → AreNumbered plan old es → KeepsTo plan old es → KeepsTo plan old fs → Twins FaultsSo old es fs
+planned_twins plan old [] fs numbered k l = tt
+planned_twins plan old (e ∷ es) [] numbered k l = tt
+planned_twins plan old (e ∷ es) (f ∷ fs) numbered k l = (
+  alike_of plan old.store e.after.store f.after.store numbered.0 k.0 l.0,
+  λ is. planned_twins plan e.after es fs numbered.1 k.1 (subst (λ (x : Event). KeepsTo plan x.after fs) (sym is) l.1),
+)
 
 -- the count of faults only rises
 pub faults_rise : (old : State) (events : List Event) → IsLawful old events → old.store.faults ≤ (state_after old events).store.faults
@@ -122,16 +137,33 @@ none_came old e events lawful none =
     let never = (step_causes old e.after e.caller e.ask e.reply lawful.1).never_falls in
     omega (arith, rest, never, none)
 
-faultless_twins : (old : State) (es fs : List Event) → Runs old es → Runs old fs → (state_after old es).store.faults ≡ old.store.faults → (state_after old fs).store.faults ≡ old.store.faults → Twins FaultsSo old es fs
-faultless_twins old [] fs r s none too = tt
-faultless_twins old (e ∷ es) [] r s none too = tt
-faultless_twins old (e ∷ es) (f ∷ fs) r s none too =
-    let here = none_came old e es r.lawful none in
-    let there = none_came old f fs s.lawful too in (
-      neither here there,
-      λ is. faultless_twins e.after es fs (rest_of old e es r) (subst (λ (x : Event). Runs x.after fs) (sym is) (rest_of old f fs s)) (none ∙ sym here)
-          (subst (λ (x : Event). (state_after x.after fs).store.faults ≡ x.after.store.faults) (sym is) (too ∙ sym there)),
-    )
+-- ---- plans that lie where the counts still count
+
+abbrev pub CountsOn : FaultPlan → Type 0
+CountsOn plan = (number : ℕ) (left : Stored) → plan number ≡ Some left → (number < 2 ^ 64 - 1) × (left.faults < 2 ^ 64 - 1)
+
+counted_numbered : (plan : FaultPlan) → CountsOn plan → (old : State) (es : List Event) → AreNumbered plan old es
+counted_numbered plan counts old [] = tt
+counted_numbered plan counts old (e ∷ es) = (λ left planned. (counts old.store.acts left planned).0, counted_numbered plan counts e.after es)
+
+-- a call that goes so leaves a count of faults that has not come to its end
+pub few_now : (plan : FaultPlan) → CountsOn plan → (old new : Stored) → old.faults < 2 ^ 64 - 1 → GoesAsPlanned plan old new → new.faults < 2 ^ 64 - 1
+few_now plan counts old new room (idle e) = subst (λ (s : Stored). s.faults < 2 ^ 64 - 1) (sym e) room
+few_now plan counts old new room (well none e) = subst (λ n. n < 2 ^ 64 - 1) (sym e) room
+few_now plan counts old new room (badly p) = (counts old.acts new p).1
+
+pub few_after : (plan : FaultPlan) → CountsOn plan → (old : State) (es : List Event) → old.store.faults < 2 ^ 64 - 1 → KeepsTo plan old es → (state_after old es).store.faults < 2 ^ 64 - 1
+few_after plan counts old [] room k = room
+few_after plan counts old (e ∷ es) room k = few_after plan counts e.after es (few_now plan counts old.store e.after.store room k.0) k.1
+
+-- the plan that says nothing
+pub none_counts : CountsOn (λ number. None)
+none_counts number left planned = absurd (cc)
+
+-- calls without a fault keep to the plan that has none
+pub faultless_keeps : (old : State) (events : List Event) → IsLawful old events → (state_after old events).store.faults ≡ old.store.faults → KeepsTo (λ number. None) old events
+faultless_keeps old [] lawful none = tt
+faultless_keeps old (e ∷ events) lawful none = let here = none_came old e events lawful none in (well refl here, faultless_keeps e.after events lawful.2 (none ∙ sym here))
 
 -- ---- plays
 
@@ -151,25 +183,31 @@ module _ (script : Script) (start end other : State) (lines others : List Line) 
   ends_one : play.history ≡ again.history → end ≡ other
   ends_one is = sym play.leads.ends ∙ ap (λ h. state_after start h) is ∙ again.leads.ends
 
-  both_one : (plan : FaultPlan) → KeepsTo plan start play.history → KeepsTo plan start again.history → StillCounts end.store → (play.history ≡ again.history) × (lines ≡ others)
-  both_one plan k l room =
-      let few = low room.faults in
-      turns_of_both (go_alike start play.history again.history told runs few runs_again (planned_twins plan start play.history again.history told runs few runs_again (subst (λ (s : State). s.store.acts < 2 ^ 64 - 1) (sym play.leads.ends) room.acts) k l))
+  both_one : (plan : FaultPlan) → end.store.faults < 2 ^ 64 - 1 → AreNumbered plan start play.history → KeepsTo plan start play.history → KeepsTo plan start again.history → (play.history ≡ again.history) × (lines ≡ others)
+  both_one plan room numbered k l =
+      turns_of_both (go_alike start play.history again.history told runs (low room) runs_again (planned_twins plan start play.history again.history numbered k l))
+
+  numbered_here : (plan : FaultPlan) → StillCounts end.store → AreNumbered plan start play.history
+  numbered_here plan room = all_numbered plan start play.history told runs (low room.faults) (subst (λ (s : State). s.store.acts < 2 ^ 64 - 1) (sym play.leads.ends) room.acts)
 
   pub play_one : (plan : FaultPlan) → KeepsTo plan start play.history → KeepsTo plan start again.history → StillCounts end.store → (lines ≡ others) × (end ≡ other)
-  play_one plan k l room = let b = both_one plan k l room in (b.1, ends_one b.0)
+  play_one plan k l room = let b = both_one plan room.faults (numbered_here plan room) k l in (b.1, ends_one b.0)
 
   pub history_one : (plan : FaultPlan) → KeepsTo plan start play.history → KeepsTo plan start again.history → StillCounts end.store → play.history ≡ again.history
-  history_one plan k l room = (both_one plan k l room).0
+  history_one plan k l room = (both_one plan room.faults (numbered_here plan room) k l).0
+
+  -- the same, where what is planned lies where the counts still count
+  pub counted_one : (plan : FaultPlan) → CountsOn plan → start.store.faults < 2 ^ 64 - 1 → KeepsTo plan start play.history → KeepsTo plan start again.history → (lines ≡ others) × (end ≡ other)
+  counted_one plan counts room k l =
+      let few : end.store.faults < 2 ^ 64 - 1 = subst (λ (s : State). s.store.faults < 2 ^ 64 - 1) play.leads.ends (few_after plan counts start play.history room k) in
+      let b = both_one plan few (counted_numbered plan counts start play.history) k l in
+      (b.1, ends_one b.0)
 
   -- no fault came from there on
   pub faultless_one : start.store.faults < 2 ^ 64 - 1 → end.store.faults ≡ start.store.faults → other.store.faults ≡ start.store.faults → (lines ≡ others) × (end ≡ other)
   faultless_one room none too =
-      let few = low (subst (λ n. n < 2 ^ 64 - 1) (sym none) room) in
-      let left = ap (λ (z : State). z.store.faults) play.leads.ends ∙ none in
-      let left_again = ap (λ (z : State). z.store.faults) again.leads.ends ∙ too in
-      let b = turns_of_both (go_alike start play.history again.history told runs few runs_again (faultless_twins start play.history again.history runs runs_again left left_again)) in
-      (b.1, ends_one b.0)
+      counted_one (λ number. None) none_counts room (faultless_keeps start play.history play.leads.lawful (ap (λ (z : State). z.store.faults) play.leads.ends ∙ none))
+      (faultless_keeps start again.history again.leads.lawful (ap (λ (z : State). z.store.faults) again.leads.ends ∙ too))
 
 pub mounted_one : (script : Script) (opened : Stored) (times : List ℕ) (start first end other : State) (lines others : List Line) → IsTold opened → opened.faults < 2 ^ 64 - 1
     → IsMounted 0 (Some times) opened start → IsMounted 0 (Some times) opened first → IsPlay script start lines end → IsPlay script first others other
@@ -181,22 +219,7 @@ mounted_one script opened times start first end other lines others told room mou
     faultless_one script start end other lines others (mounted_tells 0 times opened start told mounted) play again_so
     (subst (λ n. n < 2 ^ 64 - 1) (sym faults) room) (none ∙ sym faults) (too ∙ sym faults)
 
--- the count of faults only rises in a play
-pub play_rises : (script : Script) (start end : State) (lines : List Line) → IsPlay script start lines end → start.store.faults ≤ end.store.faults
-play_rises script start end lines play = subst (λ (s : State). start.store.faults ≤ s.store.faults) play.leads.ends (faults_rise start play.history play.leads.lawful)
-
--- and since the mounting
-pub mounted_rises : (script : Script) (times : Option (List ℕ)) (opened : Stored) (start end : State) (lines : List Line) → IsMounted 0 times opened start → IsPlay script start lines end → opened.faults ≤ end.store.faults
-mounted_rises script times opened start end lines mounted play =
-    let e : start.store.faults ≡ opened.faults = mounted_faults 0 times opened start mounted in
-    let r = play_rises script start end lines play in
-    omega (arith, e, r)
-
 -- a play without a fault keeps to the plan that has none
-faultless_keeps : (old : State) (events : List Event) → IsLawful old events → (state_after old events).store.faults ≡ old.store.faults → KeepsTo (λ number. None) old events
-faultless_keeps old [] lawful none = tt
-faultless_keeps old (e ∷ events) lawful none = let here = none_came old e events lawful none in (well refl here, faultless_keeps e.after events lawful.2 (none ∙ sym here))
-
 pub play_keeps : (script : Script) (start end : State) (lines : List Line) (play : IsPlay script start lines end) → end.store.faults ≡ start.store.faults → KeepsTo (λ number. None) start play.history
 play_keeps script start end lines play none = faultless_keeps start play.history play.leads.lawful (ap (λ (s : State). s.store.faults) play.leads.ends ∙ none)
 
@@ -208,70 +231,3 @@ mounted_play_one plan script opened times start first end other lines others tol
     let P : State → Type 0 = λ s. (twin : IsPlay script s others other) × KeepsTo plan s twin.history in
     let twin = subst P (sym is) (again, too) in
     play_one script start end other lines others (mounted_tells 0 times opened start told mounted) play twin.0 plan keeps twin.1 room
-
--- ---- each play keeps to a plan: that of its own faults
-
--- what this act left, where it faulted
-abbrev failed : Stored → Stored → Option Stored
-failed old new = if nat_eq new.faults old.faults then None else Some new
-
-abbrev plan_of : State → List Event → FaultPlan
-plan_of old [] number = None
-plan_of old (e ∷ es) number = if nat_eq old.store.acts number && not (nat_eq e.after.store.acts number) then failed old.store e.after.store else plan_of e.after es number
-
-went_so : (plan : FaultPlan) (old new : Stored) → plan old.acts ≡ failed old new → GoesAsPlanned plan old new
-went_so plan old new is = elim (nat_eq new.faults old.faults) as (λ b. nat_eq new.faults old.faults ≡ b → plan old.acts ≡ (if b then None else Some new) → GoesAsPlanned plan old new) [
-  | true ↦ λ e p. (let f : new.faults ≡ old.faults = grind (arith, nat_tests) in well p f)
-  | false ↦ λ e p. badly p
-] refl is
-
--- the number of the next act is one more
-one_more : (old new : ℕ) → old < 2 ^ 64 - 1 → new ≡ next_count old → new ≡ old + 1
-one_more old new less is = grind (arith)
-
-its_own : (old new : ℕ) → new ≡ old + 1 → (nat_eq old old && not (nat_eq new old)) ≡ true
-its_own old new is = let a : nat_eq old old ≡ true = grind (arith, nat_tests) in let b : nat_eq new old ≡ false = grind (arith, nat_tests) in rw a (rw b refl)
-
-not_own : (old new number : ℕ) → new ≡ old + 1 → new ≤ number → (nat_eq old number && not (nat_eq new number)) ≡ false
-not_own old new number is above = let a : nat_eq old number ≡ false = grind (arith, nat_tests) in rw a refl
-
-none_own : (old new number : ℕ) → new ≡ old → (nat_eq old number && not (nat_eq new number)) ≡ false
-none_own old new number is = subst (λ z. (nat_eq old number && not (nat_eq z number)) ≡ false) (sym is) (never (nat_eq old number))
-  where
-    never : (b : Bool) → (b && not b) ≡ false
-    never true = refl
-    never false = refl
-
-if_so : {A : Type 0} (b : Bool) (x y : A) → b ≡ true → (if b then x else y) ≡ x
-if_so true x y e = refl
-if_so false x y e = absurd (cc)
-
-if_not : {A : Type 0} (b : Bool) (x y : A) → b ≡ false → (if b then x else y) ≡ y
-if_not true x y e = absurd (cc)
-if_not false x y e = refl
-
-own_plan : (plan : FaultPlan) (old : State) (es : List Event) → TellsAll old → Runs old es → (state_after old es).store.faults < 2 ^ 64 - 1 → (state_after old es).store.acts < 2 ^ 64 - 1 → ((number : ℕ) → old.store.acts ≤ number → plan number ≡ plan_of old es number) → KeepsTo plan old es
-own_plan plan old [] told r low counted agrees = tt
-own_plan plan old (e ∷ es) told r low counted agrees =
-    let acts = acts_before old (e ∷ es) told r.lawful r.memory low counted in
-    let room = faults_before old (e ∷ es) (2 ^ 64 - 1) r.lawful low in
-    let one = step_tells old e told room r.memory.0 r.lawful.1 in
-    elim one.moved as (λ _. KeepsTo plan old (e ∷ es)) [
-      | inl stays ↦ (let kept : e.after.store.acts ≡ old.store.acts = ap (λ (s : Stored). s.acts) stays in (
-        idle stays,
-        own_plan plan e.after es one.tells (rest_of old e es r) low counted (λ number above.
-            agrees number (omega (arith, above, kept)) ∙ if_not _ _ _ (none_own old.store.acts e.after.store.acts number kept)),
-      ))
-      | inr acted ↦ (let more = one_more old.store.acts e.after.store.acts acts acted in (
-        went_so plan old.store e.after.store (agrees old.store.acts (omega (arith)) ∙ if_so _ _ _ (its_own old.store.acts e.after.store.acts more)),
-        own_plan plan e.after es one.tells (rest_of old e es r) low counted (λ number above.
-            agrees number (omega (arith, above, more)) ∙ if_not _ _ _ (not_own old.store.acts e.after.store.acts number more above)),
-      ))
-    ]
-
-pub play_plan : (script : Script) (start end : State) (lines : List Line) → TellsAll start → (play : IsPlay script start lines end) → StillCounts end.store → (plan : FaultPlan) × KeepsTo plan start play.history
-play_plan script start end lines told play room = (
-  plan_of start play.history,
-  own_plan (plan_of start play.history) start play.history told (runs script start end end lines lines told play play) (low script start end end lines lines told play play room.faults)
-      (subst (λ (s : State). s.store.acts < 2 ^ 64 - 1) (sym play.leads.ends) room.acts) (λ number above. refl),
-)

@@ -1,4 +1,4 @@
--- The statements of one actor by itself go one way, where nothing fails.
+-- The statements of one actor by itself go one way, by one plan of faults.
 use Rattle.std.proofs.Common.{◌≡◌, ℕ, ◌-◌, ◌<◌, ◌^◌, ◌==◌, if◌then◌else◌, List, [], ◌∷◌, ◌++◌, Some, Result, refl, sym, ap, ◌∙◌, subst}
 use Rattle.std.specs.Prelude.{map}
 use Rattle.std.specs.List.{All}
@@ -26,7 +26,9 @@ use Rattle.run_core.specs.Play.{IsPlay}
 use Rattle.run_core.specs.Written.{is_greeting, written_of, whose}
 use Rattle.plfs_program.specs.Commands.{script_of}
 use Rattle.step_laws.specs.Alike.{TellsAll}
-use Rattle.plfs_program.proofs.Replays.Lone.{AreQuiet, quiet_after, first_one, room_after}
+use Rattle.plfs_program.specs.Planned.{FaultPlan, KeepsTo}
+use Rattle.plfs_program.proofs.Replays.Lone.{AreAsPlanned, first_one, planned_after, room_after}
+use Rattle.plfs_program.proofs.Replays.Replaying.{CountsOn}
 
 -- ---- one statement
 
@@ -58,51 +60,52 @@ finish_as number next (shares programs k alone) calls line left f =
     record { after = rest.after; left_is = rest.left_is; does = rest.does }
 
 -- two ends of one statement from one state, with what is made behind it
-record OneEnd (old : State) (first second more later : List Event) (line told : Line) (after also : Kept) : Type 0 where
+record OneEnd (plan : FaultPlan) (old : State) (first second more later : List Event) (line told : Line) (after also : Kept) : Type 0 where
   line_is : line ≡ told
   kept_is : after ≡ also
   state_is : state_after old first ≡ state_after old second
   tells : TellsAll (state_after old first)
   room : (state_after old first).store.faults < 2 ^ 64 - 1
-  quiet : AreQuiet (state_after old first) more
-  quiet_too : AreQuiet (state_after old first) later
+  planned : AreAsPlanned plan (state_after old first) more
+  planned_too : AreAsPlanned plan (state_after old first) later
 
-none_quiet : (old : State) (calls more : List Event) → calls ≡ [] → AreQuiet old (calls ++ more) → AreQuiet old more
-none_quiet old calls more none q = subst (λ (z : List Event). AreQuiet old (z ++ more)) none q
+none_planned : (plan : FaultPlan) (old : State) (calls more : List Event) → calls ≡ [] → AreAsPlanned plan old (calls ++ more) → AreAsPlanned plan old more
+none_planned plan old calls more none q = subst (λ (z : List Event). AreAsPlanned plan old (z ++ more)) none q
 
 none_moved : (old : State) (calls : List Event) → calls ≡ [] → state_after old calls ≡ old
 none_moved old calls none = ap (λ z. state_after old z) none
 
--- the same of a front without calls
-idle_end : (old : State) (first second more later : List Event) (line told : Line) (after also : Kept) → TellsAll old → old.store.faults < 2 ^ 64 - 1 → AreQuiet old (first ++ more) → AreQuiet old (second ++ later)
-    → first ≡ [] → second ≡ [] → line ≡ told → after ≡ also → OneEnd old first second more later line told after also
-idle_end old first second more later line told after also known room a b x y l k =
-    let stays : old ≡ state_after old first = sym (none_moved old first x) in
-    record {
-      line_is = l;
-      kept_is = k;
-      state_is = sym stays ∙ sym (none_moved old second y);
-      tells = subst TellsAll stays known;
-      room = subst (λ (s : State). s.store.faults < 2 ^ 64 - 1) stays room;
-      quiet = subst (λ s. AreQuiet s more) stays (none_quiet old first more x a);
-      quiet_too = subst (λ s. AreQuiet s later) stays (none_quiet old second later y b);
-    }
+module _ (plan : FaultPlan) (counts : CountsOn plan) where
+  -- the same of a front without calls
+  idle_end : (old : State) (first second more later : List Event) (line told : Line) (after also : Kept) → TellsAll old → old.store.faults < 2 ^ 64 - 1 → AreAsPlanned plan old (first ++ more) → AreAsPlanned plan old (second ++ later)
+      → first ≡ [] → second ≡ [] → line ≡ told → after ≡ also → OneEnd plan old first second more later line told after also
+  idle_end old first second more later line told after also known room a b x y l k =
+      let stays : old ≡ state_after old first = sym (none_moved old first x) in
+      record {
+        line_is = l;
+        kept_is = k;
+        state_is = sym stays ∙ sym (none_moved old second y);
+        tells = subst TellsAll stays known;
+        room = subst (λ (s : State). s.store.faults < 2 ^ 64 - 1) stays room;
+        planned = subst (λ s. AreAsPlanned plan s more) stays (none_planned plan old first more x a);
+        planned_too = subst (λ s. AreAsPlanned plan s later) stays (none_planned plan old second later y b);
+      }
 
-end_one : (number : ℕ) (work : Work) (old : State) (first second more later : List Event) (line told : Line) (after also : Kept) → TellsAll old → old.store.faults < 2 ^ 64 - 1 → AreQuiet old (first ++ more) → AreQuiet old (second ++ later)
-    → EndsAs number work first line after → EndsAs number work second told also → OneEnd old first second more later line told after also
-end_one number ends old first second more later line told after also known room a b x y = absurd x
-end_one number (pauses work) old first second more later line told after also known room a b x y = absurd x
-end_one number (tells ending work) old first second more later line told after also known room a b x y =
-    idle_end old first second more later line told after also known room a b x.0 y.0 (x.1 ∙ sym y.1) (x.2 ∙ sym y.2)
-end_one number (asks question k) old [] second more later line told after also known room a b x y = absurd x
-end_one number (asks question k) old (e ∷ first) [] more later line told after also known room a b x y = absurd y
-end_one number (asks question k) old (e ∷ first) (f ∷ second) more later line told after also known room a b x y =
-    let one = first_one old e f (first ++ more) (second ++ later) known room a b (y.0 ∙ sym x.0) (y.1 ∙ sym x.1) in
-    let quiet_too : AreQuiet e.after (second ++ later) = subst (λ s. AreQuiet s (second ++ later)) (sym one.left_is) (quiet_after old f (second ++ later) b) in
-    let goes : EndsAs number (k e.reply) second told also = subst (λ r. EndsAs number (k r) second told also) (sym one.replied) y.2 in
-    let rest = end_one number (k e.reply) e.after first second more later line told after also one.tells (room_after old e (first ++ more) room a) (quiet_after old e (first ++ more) a) quiet_too x.2 goes in
-    record { line_is = rest.line_is; kept_is = rest.kept_is; state_is = rest.state_is ∙ ap (λ s. state_after s second) one.left_is; tells = rest.tells; room = rest.room; quiet = rest.quiet; quiet_too = rest.quiet_too }
-end_one number (shares programs k alone) old first second more later line told after also known room a b x y = end_one number alone old first second more later line told after also known room a b x y
+  end_one : (number : ℕ) (work : Work) (old : State) (first second more later : List Event) (line told : Line) (after also : Kept) → TellsAll old → old.store.faults < 2 ^ 64 - 1 → AreAsPlanned plan old (first ++ more) → AreAsPlanned plan old (second ++ later)
+      → EndsAs number work first line after → EndsAs number work second told also → OneEnd plan old first second more later line told after also
+  end_one number ends old first second more later line told after also known room a b x y = absurd x
+  end_one number (pauses work) old first second more later line told after also known room a b x y = absurd x
+  end_one number (tells ending work) old first second more later line told after also known room a b x y =
+      idle_end old first second more later line told after also known room a b x.0 y.0 (x.1 ∙ sym y.1) (x.2 ∙ sym y.2)
+  end_one number (asks question k) old [] second more later line told after also known room a b x y = absurd x
+  end_one number (asks question k) old (e ∷ first) [] more later line told after also known room a b x y = absurd y
+  end_one number (asks question k) old (e ∷ first) (f ∷ second) more later line told after also known room a b x y =
+      let one = first_one plan counts old e f (first ++ more) (second ++ later) known room a b (y.0 ∙ sym x.0) (y.1 ∙ sym x.1) in
+      let planned_too : AreAsPlanned plan e.after (second ++ later) = subst (λ s. AreAsPlanned plan s (second ++ later)) (sym one.left_is) (planned_after plan old f (second ++ later) b) in
+      let goes : EndsAs number (k e.reply) second told also = subst (λ r. EndsAs number (k r) second told also) (sym one.replied) y.2 in
+      let rest = end_one number (k e.reply) e.after first second more later line told after also one.tells (room_after plan counts old e (first ++ more) room a) (planned_after plan old e (first ++ more) a) planned_too x.2 goes in
+      record { line_is = rest.line_is; kept_is = rest.kept_is; state_is = rest.state_is ∙ ap (λ s. state_after s second) one.left_is; tells = rest.tells; room = rest.room; planned = rest.planned; planned_too = rest.planned_too }
+  end_one number (shares programs k alone) old first second more later line told after also known room a b x y = end_one number alone old first second more later line told after also known room a b x y
 
 -- ---- statements, one after the other
 
@@ -114,20 +117,21 @@ AreDone kept (s ∷ ss) calls [] = ⊥
 AreDone kept (s ∷ ss) calls (line ∷ lines) =
     (first : List Event) × (more : List Event) × (after : Kept) × (calls ≡ first ++ more) × EndsAs s.line (work_of kept s.statement) first line after × AreDone after ss more lines
 
--- more statements begin with the same lines
-pub lines_begin : (statements further : List Numbered) (kept : Kept) (old : State) (calls others : List Event) (lines told : List Line) → TellsAll old → old.store.faults < 2 ^ 64 - 1 → AreQuiet old calls → AreQuiet old others
-    → AreDone kept statements calls lines → AreDone kept (statements ++ further) others told → (more : List Line) × (told ≡ lines ++ more)
-lines_begin [] further kept old calls others [] told known room a b x y = (told, refl)
-lines_begin [] further kept old calls others (line ∷ lines) told known room a b x y = absurd x
-lines_begin (s ∷ ss) further kept old calls others [] told known room a b x y = absurd x
-lines_begin (s ∷ ss) further kept old calls others (line ∷ lines) [] known room a b x y = absurd y
-lines_begin (s ∷ ss) further kept old calls others (line ∷ lines) (said ∷ told) known room a b (first, more, after, is, does, later) (second, rest, also, is_too, does_too, later_too) =
-    let a_so : AreQuiet old (first ++ more) = subst (AreQuiet old) is a in
-    let b_so : AreQuiet old (second ++ rest) = subst (AreQuiet old) is_too b in
-    let one = end_one s.line (work_of kept s.statement) old first second more rest line said after also known room a_so b_so does does_too in
-    let goes : AreDone after (ss ++ further) rest told = subst (λ k. AreDone k (ss ++ further) rest told) (sym one.kept_is) later_too in
-    let begins = lines_begin ss further after (state_after old first) more rest lines told one.tells one.room one.quiet one.quiet_too later goes in
-    (begins.0, λ i. sym one.line_is i ∷ begins.1 i)
+module _ (plan : FaultPlan) (counts : CountsOn plan) where
+  -- more statements begin with the same lines
+  pub lines_begin : (statements further : List Numbered) (kept : Kept) (old : State) (calls others : List Event) (lines told : List Line) → TellsAll old → old.store.faults < 2 ^ 64 - 1 → AreAsPlanned plan old calls → AreAsPlanned plan old others
+      → AreDone kept statements calls lines → AreDone kept (statements ++ further) others told → (more : List Line) × (told ≡ lines ++ more)
+  lines_begin [] further kept old calls others [] told known room a b x y = (told, refl)
+  lines_begin [] further kept old calls others (line ∷ lines) told known room a b x y = absurd x
+  lines_begin (s ∷ ss) further kept old calls others [] told known room a b x y = absurd x
+  lines_begin (s ∷ ss) further kept old calls others (line ∷ lines) [] known room a b x y = absurd y
+  lines_begin (s ∷ ss) further kept old calls others (line ∷ lines) (said ∷ told) known room a b (first, more, after, is, does, later) (second, rest, also, is_too, does_too, later_too) =
+      let a_so : AreAsPlanned plan old (first ++ more) = subst (AreAsPlanned plan old) is a in
+      let b_so : AreAsPlanned plan old (second ++ rest) = subst (AreAsPlanned plan old) is_too b in
+      let one = end_one plan counts s.line (work_of kept s.statement) old first second more rest line said after also known room a_so b_so does does_too in
+      let goes : AreDone after (ss ++ further) rest told = subst (λ k. AreDone k (ss ++ further) rest told) (sym one.kept_is) later_too in
+      let begins = lines_begin ss further after (state_after old first) more rest lines told one.tells one.room one.planned one.planned_too later goes in
+      (begins.0, λ i. sym one.line_is i ∷ begins.1 i)
 
 -- ---- of the play of one actor
 
@@ -190,14 +194,9 @@ play_done statements start end lines play all =
         let P : List Event × List Line → Type 0 = λ z. AreDone (fresh 0 64) statements z.0 z.1 in
         subst P (λ i. (history i, told_so i)) done_so
 
--- a play without a fault
-pub play_quiet : (statements : List Numbered) (start end : State) (lines : List Line) (play : IsPlay (script_of statements) start lines end) → end.store.faults ≡ start.store.faults → AreQuiet start play.history
-play_quiet statements start end lines play none = record { lawful = play.leads.lawful; memory = play.had_memory; none = ap (λ (s : State). s.store.faults) play.leads.ends ∙ none }
-
 -- of two such plays from one state, where one has more statements behind those of the other, it has more lines behind those
-pub plays_begin : (statements further : List Numbered) (start end other : State) (lines told : List Line) → TellsAll start → start.store.faults < 2 ^ 64 - 1 → All IsFirst statements → All IsFirst (statements ++ further)
-    → IsPlay (script_of statements) start lines end → IsPlay (script_of (statements ++ further)) start told other → end.store.faults ≡ start.store.faults → other.store.faults ≡ start.store.faults
-    → (more : List Line) × (told ≡ lines ++ more)
-plays_begin statements further start end other lines told known room all all_too play again none none_too =
-    lines_begin statements further (fresh 0 64) start play.history again.history lines told known room (play_quiet statements start end lines play none) (play_quiet (statements ++ further) start other told again none_too)
-    (play_done statements start end lines play all) (play_done (statements ++ further) start other told again all_too)
+pub plays_begin : (plan : FaultPlan) → CountsOn plan → (statements further : List Numbered) (start end other : State) (lines told : List Line) → TellsAll start → start.store.faults < 2 ^ 64 - 1 → All IsFirst statements → All IsFirst (statements ++ further)
+    → (play : IsPlay (script_of statements) start lines end) → (again : IsPlay (script_of (statements ++ further)) start told other) → KeepsTo plan start play.history → KeepsTo plan start again.history → (more : List Line) × (told ≡ lines ++ more)
+plays_begin plan counts statements further start end other lines told known room all all_too play again keeps too =
+    lines_begin plan counts statements further (fresh 0 64) start play.history again.history lines told known room (record { lawful = play.leads.lawful; memory = play.had_memory; keeps = keeps })
+    (record { lawful = again.leads.lawful; memory = again.had_memory; keeps = too }) (play_done statements start end lines play all) (play_done (statements ++ further) start other told again all_too)

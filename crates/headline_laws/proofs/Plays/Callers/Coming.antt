@@ -15,7 +15,7 @@ use Rattle.mount_model.specs.Program.{AsksOnly, Program, ask, done}
 use Rattle.mount_model.proofs.Stories.Facts.{entries_first, entries_not_first, plays_after}
 use Rattle.mount_model.specs.declared.call.Ask.{Ask}
 use Rattle.mount_model.specs.declared.call.Call.{Call}
-use Rattle.mount_model.specs.declared.call.Call.TheVariants.{Enter, Exit, Floor, Flush, MakeContainer, MakeHostdir, MakeIndex, MakeLog, Mark, Move, PutMeta, SyncIndex, SyncLog, Write}
+use Rattle.mount_model.specs.declared.call.Call.TheVariants.{Enter, Exit, Floor, Flush, Hold, MakeContainer, MakeHostdir, MakeIndex, MakeLog, Mark, Move, PutMeta, SyncIndex, SyncLog, Write}
 use Rattle.mount_model.specs.declared.reply.Reply.{Reply}
 use Rattle.mount_model.specs.History.{Event}
 use Rattle.mount_model.proofs.Facts.{IsOnNoWriter}
@@ -32,7 +32,7 @@ use Rattle.headline_laws.proofs.Plays.Callers.Standing.{AllOf, keeps_first}
 
 -- ---- what a statement asks, and how it ends
 
--- The call is on no writer, makes no container, and truncates or renames none.
+-- The call is on no writer, makes no container, and holds, truncates or renames none.
 abbrev pub IsQuiet : Call → Type 0
 IsQuiet (MakeContainer name) = ⊥
 IsQuiet (Enter room host cap) = ⊥
@@ -46,6 +46,7 @@ IsQuiet (SyncLog writer) = ⊥
 IsQuiet (SyncIndex writer) = ⊥
 IsQuiet (PutMeta writer) = ⊥
 IsQuiet (Exit writer) = ⊥
+IsQuiet (Hold room) = ⊥
 IsQuiet (Mark holder size top) = ⊥
 IsQuiet (Move holder to) = ⊥
 IsQuiet call = Unit {0}

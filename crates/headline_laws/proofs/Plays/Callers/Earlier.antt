@@ -13,7 +13,7 @@ use Rattle.reader_laws.specs.Opened.{HasOpenReader, HasOpenedIn}
 use Rattle.headline_laws.proofs.Plays.Readers.Opened.{no_calls}
 
 -- of a view from a later moment on
-view_earlier : (a b end : Moment) (room : ℕ) (cut : List Gathered) (truncs : List Trunc) → Grows a b → HasView b end room cut truncs → HasView a end room cut truncs
+pub view_earlier : (a b end : Moment) (room : ℕ) (cut : List Gathered) (truncs : List Trunc) → Grows a b → HasView b end room cut truncs → HasView a end room cut truncs
 view_earlier a b end room cut truncs grows v = record {
   rise = v.rise;
   admissible = each cut v.admissible;

@@ -59,7 +59,7 @@ container_found m s n room name after a =
 -- ---- a container that was found or made
 
 -- the room that was told is the first of this name then
-made_named : (tree after : Tree) (name : Name) (folders files : List Name) (told : Told) (table : Table) (room : ℕ) → Room room ≡ (make_outcome table told).reply → MadeOrNot tree (Number (length tree.rooms)) (RoomMade tree name folders files) (WhyNoRoomMade tree name) told after → IsRoomOf after name room
+pub made_named : (tree after : Tree) (name : Name) (folders files : List Name) (told : Told) (table : Table) (room : ℕ) → Room room ≡ (make_outcome table told).reply → MadeOrNot tree (Number (length tree.rooms)) (RoomMade tree name folders files) (WhyNoRoomMade tree name) told after → IsRoomOf after name room
 made_named tree after name folders files (Ok (Number n)) table room e m =
     let same : n ≡ room = cc in
     elim (cases_eq n (length tree.rooms)) as (λ _. IsRoomOf after name room) [

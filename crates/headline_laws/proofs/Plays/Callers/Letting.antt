@@ -1,10 +1,8 @@
 -- A statement none of whose calls is on a writer lets each writer be, up to a call that is broken off.
-use Rattle.std.proofs.Common.{◌≡◌, inl, inr, ℕ, true, List, [], ◌∷◌, ◌++◌, Option, Some, None, refl, sym, ap, ◌∙◌, subst, append_assoc}
+use Rattle.std.proofs.Common.{◌≡◌, inl, inr, ℕ, true, List, [], ◌∷◌, ◌++◌, Some, None, refl, sym, ap, ◌∙◌, subst, append_assoc}
 use Rattle.turn_object.specs.Callers.{made_by}
 use Rattle.mount_model.specs.Process.{asks, ends, pauses, shares, tells}
 use Rattle.mount_model.specs.declared.call.Ask.{Ask}
-use Rattle.mount_model.specs.declared.call.Call.{Call}
-use Rattle.mount_model.specs.declared.reply.Reply.{Reply}
 use Rattle.mount_model.specs.History.{Event}
 use Rattle.mount_model.proofs.Facts.{IsOnNoWriter}
 use Rattle.writer_laws.specs.Waiting.{IsOn, LeavesAlone, LetsBe}

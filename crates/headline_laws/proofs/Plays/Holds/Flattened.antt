@@ -1,12 +1,14 @@
 -- What the line of a flattening shows of its container.
 use Rattle.std.proofs.Common.{◌≡◌, ℕ, true, false, List, [], ◌∷◌, ◌++◌, length, Result, Ok, Err, refl, sym, ap, ◌∙◌, subst, append_assoc}
+use Rattle.std.specs.List.{All}
 use Rattle.flat_format.specs.declared.flat.Flat.{Flat}
 use Rattle.flat_format.specs.declared.flat.TheConstants.{HEAD_SIZE}
 use Rattle.flat_format.specs.Spelling.{SpellsFlat, flat_spelling}
 use Rattle.flat_format.specs.Valid.{IsFlat}
 use Rattle.flat_format.proofs.Facts.{one_flat}
+use Rattle.turn_object.specs.Callers.{made_by}
 use Rattle.mount_model.specs.declared.call.Call.{Call}
-use Rattle.mount_model.specs.declared.call.Call.TheVariants.{Find, InstallFlat, PutFlat, StartFlat, SyncDropping, SyncFlat}
+use Rattle.mount_model.specs.declared.call.Call.TheVariants.{Find, Greet, InstallFlat, PutFlat, StartFlat, SyncDropping, SyncFlat}
 use Rattle.mount_model.specs.declared.reply.Reply.TheVariants.{Done, Room as Found, Started as Begun}
 use Rattle.mount_model.specs.declared.row.Making.TheVariants as making
 use Rattle.mount_model.specs.History.{Event}
@@ -32,17 +34,20 @@ use Rattle.flatten_core.specs.Installing.{done_or, if_done, install_program, ins
 use Rattle.flatten_core.specs.Starting.{begins, begun, start_program}
 use Rattle.outcomes.specs.Counts.{counts_of}
 use Rattle.reader_laws.specs.Moments.{IsSoundAt, Moment, moment_after, next_moment}
+use Rattle.reader_laws.specs.Seen.{Asked, calls_of}
 use Rattle.reader_laws.proofs.Gathered.Facts.{its_writers, legal_first, legal_rest, moment-append, sound_after}
 use Rattle.reader_laws.proofs.Facts.{answered, first_of}
-use Rattle.flatten_laws.proofs.Facts.{IsTaken, gathered_taken}
+use Rattle.flatten_laws.proofs.Facts.{IsOfView, IsTaken, gathered_viewed, viewed_taken}
 use Rattle.headline_laws.specs.Changing.{IsAnswered}
 use Rattle.headline_laws.specs.Flattening.{FlattensFile, IsFlattened}
 use Rattle.reader_laws.specs.Naming.{IsRoomNamed}
 use Rattle.headline_laws.proofs.Plays.Holds.Changes.{then_moment}
 use Rattle.headline_laws.proofs.Plays.Callers.Finding.{name_found}
+use Rattle.headline_laws.proofs.Plays.Callers.Standing.{Next}
 use Rattle.headline_laws.proofs.Plays.Holds.Held.{answered_so, found_room, its_step, went_on}
 use Rattle.headline_laws.proofs.Plays.Holds.Makings.{AreUnbroken, HasBytes, IsFlatOf, StandsInstalled, bytes_installed, bytes_on, bytes_put, bytes_synced, flat_after, flat_begun, runs_unbroken}
 use Rattle.headline_laws.proofs.Plays.Holds.Covering.{went_ok, went_done, was_done, was_begun, spells_so, scanned_spells}
+use Rattle.headline_laws.proofs.Plays.Holds.Viewed.{ViewedFile, viewed_behind}
 
 -- ---- what stands
 
@@ -195,8 +200,14 @@ told_is a b e = cc
 
 module _ (n : ℕ) (m : Moment) (started : Started) where
   -- of what was gathered so much is told
-  abbrev Tells : List Event → Flattened → Type 0
-  Tells events told = (index : Flat) × (told ≡ flattened started index) × InstallsIt n started.room started.flat index m events
+  record Tells (events : List Event) (told : Flattened) : Type 0 where
+    pub index : Flat
+    pub is : told ≡ flattened started index
+    pub installs : InstallsIt n started.room started.flat index m events
+    pub gathering : List Event
+    pub rest : List Event
+    pub all : events ≡ gathering ++ rest
+    pub viewed : IsOfView n started.room index m gathering
 
   lists_so : (events : List Event) (told : Flattened) → IsAt n started.room started.flat no_flat m events → Runs n (lists started) events (Ok told) → Tells events told
   lists_so events told a runs =
@@ -210,15 +221,21 @@ module _ (n : ℕ) (m : Moment) (started : Started) where
       let front : List Event = t.first ++ u.first in
       let all : events ≡ front ++ u.rest = t.all ∙ ap (λ z. t.first ++ z) u.all ∙ sym (append_assoc t.first u.first u.rest) in
       let lawful : IsLawful m.state (t.first ++ u.first) = legal_first m front u.rest (subst (IsLawful m.state) all a.lawful) in
-      let taken : IsTaken started.room index (moment_after m (t.first ++ u.first)).state =
-      gathered_taken n started.room m t.first u.first w.0 x.0 lawful a.sound (subst (λ r. Runs n (open_at_program started.room) t.first r) w.1 t.runs) (subst (λ r. Runs n (shares_from 1 w.0 0 []) u.first r) x.1 u.runs) in
+      let viewed : IsOfView n started.room index m (t.first ++ u.first) =
+      gathered_viewed n started.room m t.first u.first w.0 x.0 lawful a.sound (subst (λ r. Runs n (open_at_program started.room) t.first r) w.1 t.runs) (subst (λ r. Runs n (shares_from 1 w.0 0 []) u.first r) x.1 u.runs) in
+      let taken : IsTaken started.room index (moment_after m (t.first ++ u.first)).state = viewed_taken n started.room index m (t.first ++ u.first) lawful a.sound viewed in
       let here : IsAt n started.room started.flat index (moment_after m front) u.rest = at_rest n started.room started.flat index m events front u.rest all (record { lawful = a.lawful; sound = a.sound; whole = a.whole; its = a.its }) in
       let first = at_first n started.room started.flat index (moment_after m front) u.rest v.first v.rest v.all here in
-      let i = install_so n started.room started.flat index (moment_after m front) v.first y.0 first taken.valid (subst (λ r. Runs n (install_program started.room started.flat index.covers (flat_spelling index)) v.first r) y.1 v.runs) in (
-        index,
-        sym (told_is (flattened started index) told y.2.1),
-        behind n started.room started.flat index m front u.rest events all (more i.before i.event i.later v.first v.rest u.rest index (moment_after m front) i v.all),
-      )
+      let i = install_so n started.room started.flat index (moment_after m front) v.first y.0 first taken.valid (subst (λ r. Runs n (install_program started.room started.flat index.covers (flat_spelling index)) v.first r) y.1 v.runs) in
+      record {
+        index = index;
+        is = sym (told_is (flattened started index) told y.2.1);
+        installs = behind n started.room started.flat index m front u.rest events all (more i.before i.event i.later v.first v.rest u.rest index (moment_after m front) i v.all);
+        gathering = front;
+        rest = u.rest;
+        all = all;
+        viewed = viewed;
+      }
     where
       more : (before : List Event) (event : Event) (later first rest whole : List Event) (index : Flat) (x : Moment) (i : InstallsIt n started.room started.flat index x first) → whole ≡ first ++ rest → InstallsIt n started.room started.flat index x whole
       more before event later first rest whole index x i is = record {
@@ -230,9 +247,11 @@ module _ (n : ℕ) (m : Moment) (started : Started) where
         stands = i.stands;
       }
 
-pub flattens : (start : Moment) (n : ℕ) (before greeting mine : List Event) (name : Name) (told : Flattened) → IsLawful (moment_after start (before ++ greeting)).state mine → IsSoundAt (moment_after start (before ++ greeting)) → Runs n (flatten_program name) mine (Ok told)
+pub flattens : (start : Moment) (n : ℕ) (before greeting mine : List Event) (name : Name) (told : Flattened) → IsSoundAt start → Next start (before ++ greeting) mine → All (λ (a : Asked). a.ask.call ≡ Greet) (calls_of n greeting) → Runs n (flatten_program name) mine (Ok told)
     → FlattensFile start n (record { before = before; events = greeting ++ mine }) name told.flat told.pieces (counts_of told.covers)
-flattens start n before greeting mine name told lawful sound runs =
+flattens start n before greeting mine name told sound_start next greets runs =
+    let lawful = next.lawful in
+    let sound = next.sound in
     let m : Moment = moment_after start (before ++ greeting) in
     let t = runs_in_two n (start_program name) (on_ok lists) mine (Ok told) runs in
     let w = went_ok t.value lists n t.rest told t.then_runs in
@@ -261,12 +280,11 @@ flattens start n before greeting mine name told lawful sound runs =
     let start_step : IsStep at_start.state n (unbroken (StartFlat a.0)) (Begun started.flat) g.event.after = its_step n (StartFlat a.0) (Begun started.flat) at_start.state g.event g.by_caller g.asked b.0 from_start.1 in
     let its : IsFlatOf n started.flat a.0 now.state = flat_begun n started.flat a.0 at_start g.event.after s_start start_step in
     let whole : AreUnbroken n (front ++ after) = subst (AreUnbroken n) all (runs_unbroken n (flatten_program name) mine (Ok told) runs) in
-    let is_now : moment_after m front ≡ now = moment-append m f.before (f.event ∷ (g.before ++ g.event ∷ [])) ∙ moment-append found g.before (g.event ∷ []) in
     let here : IsAt n started.room started.flat no_flat now after = record { lawful = from_start.2; sound = s_now; whole = whole_rest n started.room started.flat no_flat front after whole; its = subst (λ r. IsFlatOf n started.flat r now.state) (sym b.1) its } in
     let rest : IsAt n started.room started.flat no_flat (moment_after now g.later) t.rest = at_rest n started.room started.flat no_flat now after g.later t.rest refl here in
     let k = lists_so n (moment_after now g.later) started t.rest told rest w.2 in
-    let i : InstallsIt n started.room started.flat k.0 now after = behind n started.room started.flat k.0 now g.later t.rest after refl k.2 in
-    shown a.0 started k.0 f.before f.event g.before g.event after front refl all (sym b.1) k.1 i room_told f.by_caller f.asked is_now (λ tree has. name_found at_find.state n name a.0 f.event.after tree (answered at_find.state n (Find name) (unbroken (Find name)) (Found a.0) f.event.after refl find_step) has)
+    gathered_so a.0 started t.first t.rest f.before f.event f.later g.before g.event g.later t.all f.split g.split (sym b.1) k room_told f.by_caller f.asked f.waits
+    (λ tree has. name_found at_find.state n name a.0 f.event.after tree (answered at_find.state n (Find name) (unbroken (Find name)) (Found a.0) f.event.after refl find_step) has)
   where
     regroup : (first : List Event) (finding : Event) (second : List Event) (starting : Event) (third : List Event) (last : Event) → first ++ (finding ∷ (second ++ starting ∷ third) ++ last ∷ []) ≡ (first ++ finding ∷ (second ++ starting ∷ [])) ++ (third ++ last ∷ [])
     regroup first finding second starting third last =
@@ -275,8 +293,8 @@ flattens start n before greeting mine name told lawful sound runs =
     shown : (room : ℕ) (started : Started) (index : Flat) (first : List Event) (finding : Event) (second : List Event) (starting : Event) (after front : List Event) → front ≡ first ++ finding ∷ (second ++ starting ∷ []) → mine ≡ front ++ after → room ≡ started.room → told ≡ flattened started index
         → (i : InstallsIt n started.room started.flat index (next_moment (moment_after (next_moment (moment_after (moment_after start (before ++ greeting)) first) finding) second) starting) after) → finding.reply ≡ Found room → finding.caller ≡ n → finding.ask ≡ unbroken (Find name)
         → moment_after (moment_after start (before ++ greeting)) front ≡ next_moment (moment_after (next_moment (moment_after (moment_after start (before ++ greeting)) first) finding) second) starting
-        → IsRoomNamed (moment_after (moment_after start (before ++ greeting)) first) name room → FlattensFile start n (record { before = before; events = greeting ++ mine }) name told.flat told.pieces (counts_of told.covers)
-    shown room started index first finding second starting after front is all same told_so i found own asked is_now named =
+        → IsRoomNamed (moment_after (moment_after start (before ++ greeting)) first) name room → ViewedFile start n before greeting mine first finding started.room index → FlattensFile start n (record { before = before; events = greeting ++ mine }) name told.flat told.pieces (counts_of told.covers)
+    shown room started index first finding second starting after front is all same told_so i found own asked is_now named v =
         let m : Moment = moment_after start (before ++ greeting) in
         let more : List Event = second ++ starting ∷ i.before in
         let split : mine ≡ first ++ (finding ∷ more ++ i.event ∷ i.later) =
@@ -302,4 +320,23 @@ flattens start n before greeting mine name told lawful sound runs =
           named = subst (λ x. IsRoomNamed x name room) (then_moment start before greeting first) named;
           installs = i.installs;
           stands = subst (λ r. IsFlattened (moment_after start (before ++ ((greeting ++ first) ++ (finding ∷ more ++ i.event ∷ [])))) r started.flat (length index.pieces) (counts_of index.covers)) (sym same) shown_there;
+          seen = v.file;
+          sees = v.sees;
+          in_room = v.in_room ∙ sym same;
+          counted = v.counted;
+          shown = (index.pieces, v.shown, refl);
         })
+
+    -- what was told of what was gathered
+    gathered_so : (room : ℕ) (started : Started) (begun gathered first : List Event) (finding : Event) (found second : List Event) (starting : Event) (third : List Event) → mine ≡ begun ++ gathered → begun ≡ first ++ finding ∷ found → found ≡ second ++ starting ∷ third → room ≡ started.room
+        → Tells n (moment_after (next_moment (moment_after (next_moment (moment_after (moment_after start (before ++ greeting)) first) finding) second) starting) third) started gathered told → finding.reply ≡ Found room → finding.caller ≡ n → finding.ask ≡ unbroken (Find name) → made_by n first ≡ []
+        → IsRoomNamed (moment_after (moment_after start (before ++ greeting)) first) name room → FlattensFile start n (record { before = before; events = greeting ++ mine }) name told.flat told.pieces (counts_of told.covers)
+    gathered_so room started begun gathered first finding found second starting third all_is begun_is found_is same k told_room own asked waits named =
+        let m : Moment = moment_after start (before ++ greeting) in
+        let from : Moment = next_moment (moment_after m first) finding in
+        let now : Moment = next_moment (moment_after from second) starting in
+        let front : List Event = first ++ finding ∷ (second ++ starting ∷ []) in
+        let parted : begun ≡ front ++ third = begun_is ∙ ap (λ z. first ++ finding ∷ z) (found_is ∙ sym (append_assoc second (starting ∷ []) third)) ∙ sym (append_assoc first (finding ∷ (second ++ starting ∷ [])) third) in
+        shown room started k.index first finding second starting (third ++ gathered) front refl (all_is ∙ ap (λ z. z ++ gathered) parted ∙ append_assoc front third gathered) same k.is (behind n started.room started.flat k.index now third gathered (third ++ gathered) refl k.installs) told_room own asked
+        (moment-append m first (finding ∷ (second ++ starting ∷ [])) ∙ moment-append from second (starting ∷ [])) named
+        (viewed_behind start n before greeting mine begun gathered first finding found second starting third k.gathering k.rest started.room k.index sound_start next greets all_is begun_is found_is k.all waits own k.viewed)

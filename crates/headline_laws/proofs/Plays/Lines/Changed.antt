@@ -1,8 +1,9 @@
 -- What the statements show that change a file.
 use Rattle.std.proofs.Common.{◌≡◌, ℕ, inl, inr, List, ◌++◌, Option, Result, Ok, Err, refl}
+use Rattle.std.specs.List.{All}
 use Rattle.mount_model.specs.Process.{ends}
 use Rattle.mount_model.specs.Plays.{Plays}
-use Rattle.mount_model.specs.declared.call.Call.TheVariants.{Find}
+use Rattle.mount_model.specs.declared.call.Call.TheVariants.{Find, Greet}
 use Rattle.mount_model.specs.declared.reply.Refusal.{Refusal}
 use Rattle.mount_model.specs.declared.reply.Refusal.TheVariants as refusal
 use Rattle.mount_model.specs.Paths.{Name}
@@ -21,7 +22,8 @@ use Rattle.trunc_rename.specs.Renaming.{moves, rename_program}
 use Rattle.trunc_rename.specs.Truncating.{lists_metadata, truncate_program}
 use Rattle.script_lang.specs.declared.line.Outcome.{Outcome}
 use Rattle.script_lang.specs.declared.line.Outcome.TheVariants.{Flattened, Recovered, Renamed, Stopped, Truncated}
-use Rattle.reader_laws.specs.Moments.{Moment, moment_after}
+use Rattle.reader_laws.specs.Moments.{IsSoundAt, Moment, moment_after}
+use Rattle.reader_laws.specs.Seen.{Asked, calls_of}
 use Rattle.trouble_laws.specs.Undamaged.{IsNoDamage}
 use Rattle.trouble_laws.proofs.Facts.{flatten_ends, recover_ends, rename_ends, truncate_ends}
 use Rattle.outcomes.specs.Counts.{counts_of}
@@ -153,10 +155,10 @@ module _ (start : Moment) (n : ℕ) (before greeting : List Event) {L : Type 0} 
   flatten_trouble name mine (stuck.Damaged folder file place) plain = absurd plain
   flatten_trouble name mine (stuck.Refused because) plain = tt
 
-  flatten_shows : (name : Name) (mine : List Event) (result : Result WasFlattened Stuck) → Next start (before ++ greeting) mine → Runs n (flatten_program name) mine result → FlattensSo name mine (flatten_outcome result)
-  flatten_shows name mine (Ok f) whole runs = flattens start n before greeting mine name f whole.lawful whole.sound runs
-  flatten_shows name mine (Err why) whole runs = flatten_trouble name mine why (flatten_ends n name Now.state Now.issued mine (Err why) whole.lawful whole.sound runs)
+  flatten_shows : IsSoundAt start → All (λ (a : Asked). a.ask.call ≡ Greet) (calls_of n greeting) → (name : Name) (mine : List Event) (result : Result WasFlattened Stuck) → Next start (before ++ greeting) mine → Runs n (flatten_program name) mine result → FlattensSo name mine (flatten_outcome result)
+  flatten_shows sound greets name mine (Ok f) whole runs = flattens start n before greeting mine name f sound whole greets runs
+  flatten_shows sound greets name mine (Err why) whole runs = flatten_trouble name mine why (flatten_ends n name Now.state Now.issued mine (Err why) whole.lawful whole.sound runs)
 
-  pub flattening_ends : (name : Name) (part : List Event) (ws : List (List Event)) (lines : List L) (left : CourseOf L) → Next start before (greeting ++ part) → Plays n (then_told as_line next (carried (flatten_program name) stop (λ left result. finishes (ending (flatten_outcome result) kept)) (finishes (stopped kept)))) part ws lines left
+  pub flattening_ends : IsSoundAt start → All (λ (a : Asked). a.ask.call ≡ Greet) (calls_of n greeting) → (name : Name) (part : List Event) (ws : List (List Event)) (lines : List L) (left : CourseOf L) → Next start before (greeting ++ part) → Plays n (then_told as_line next (carried (flatten_program name) stop (λ left result. finishes (ending (flatten_outcome result) kept)) (finishes (stopped kept)))) part ws lines left
       → EndsSo n as_line next part ws lines left (λ mine e. (e.kept.reader ≡ kept.reader) × ShowsFlattening start n (record { before = before; events = greeting ++ mine }) name e.outcome)
-  flattening_ends name = program_ends (FlattensSo name) (flatten_program name) (λ (f : WasFlattened). Flattened f.flat f.pieces (counts_of f.covers)) (λ mine. tt) (flatten_shows name)
+  flattening_ends sound greets name = program_ends (FlattensSo name) (flatten_program name) (λ (f : WasFlattened). Flattened f.flat f.pieces (counts_of f.covers)) (λ mine. tt) (flatten_shows sound greets name)

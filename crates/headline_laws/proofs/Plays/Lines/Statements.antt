@@ -223,7 +223,7 @@ module _ (start : Moment) (sound : IsSoundAt start) (n : ℕ) (before greeting :
   does_end kept stop Refresh old writer part ws lines left alive fits keeps quiet known whole all plays = spared_end kept stop Refresh old writer part ws lines left (quietly kept (does kept stop Refresh) (refreshes_spare kept alive stop kept.reader)) (λ mine outcome shown. shown) (λ mine spent told end at_it these on. refresh_ends start sound n before greeting greets end_alone nothing_more kept stop kept.reader old mine spent told end refl keeps at_it on) quiet known whole all plays
   does_end kept stop Rclose old writer part ws lines left alive fits keeps quiet known whole all plays = spared_end kept stop Rclose old writer part ws lines left (quietly kept (does kept stop Rclose) (closes_spare kept alive kept.reader)) (λ mine outcome shown. shown) (λ mine spent told end at_it these on. close_ends start n before greeting end_alone nothing_more kept stop kept.reader old mine spent told end refl keeps on) quiet known whole all plays
   does_end kept stop (Stat name) old writer part ws lines left alive fits keeps quiet known whole all plays = spared_end kept stop (Stat name) old writer part ws lines left (quietly kept (does kept stop (Stat name)) (looks_spare kept alive stop name)) (λ mine outcome shown. shown) (λ mine spent told end at_it these on. told_end start sound n before greeting greets end_alone nothing_more kept (Stat name) old (λ events outcome. ShowsLook start n (record { before = before; events = greeting ++ events }) name outcome) mine spent told end (λ m o shown. (refl, shown)) keeps at_it (look_ends start sound n before greeting greets name end_alone nothing_more kept stop mine spent told end at_it on)) quiet known whole all plays
-  does_end kept stop (Flatten name) old writer part ws lines left alive fits keeps quiet known whole all plays = spared_end kept stop (Flatten name) old writer part ws lines left (quietly kept (does kept stop (Flatten name)) (flattens_spare kept alive stop name)) (λ mine outcome shown. shown) (λ mine spent told end at_it these on. told_end start sound n before greeting greets end_alone nothing_more kept (Flatten name) old (λ events outcome. ShowsFlattening start n (record { before = before; events = greeting ++ events }) name outcome) mine spent told end (λ m o shown. (refl, shown)) keeps at_it (flattening_ends start n before greeting end_alone nothing_more kept stop name mine spent told end at_it on)) quiet known whole all plays
+  does_end kept stop (Flatten name) old writer part ws lines left alive fits keeps quiet known whole all plays = spared_end kept stop (Flatten name) old writer part ws lines left (quietly kept (does kept stop (Flatten name)) (flattens_spare kept alive stop name)) (λ mine outcome shown. shown) (λ mine spent told end at_it these on. told_end start sound n before greeting greets end_alone nothing_more kept (Flatten name) old (λ events outcome. ShowsFlattening start n (record { before = before; events = greeting ++ events }) name outcome) mine spent told end (λ m o shown. (refl, shown)) keeps at_it (flattening_ends start n before greeting end_alone nothing_more kept stop sound greets name mine spent told end at_it on)) quiet known whole all plays
   does_end kept stop (Recover name) old writer part ws lines left alive fits keeps quiet known whole all plays = spared_end kept stop (Recover name) old writer part ws lines left (quietly kept (does kept stop (Recover name)) (recovers_spare kept alive stop name)) (λ mine outcome shown. shown) (λ mine spent told end at_it these on. told_end start sound n before greeting greets end_alone nothing_more kept (Recover name) old (λ events outcome. ShowsRecovery start n (record { before = before; events = greeting ++ events }) name outcome) mine spent told end (λ m o shown. (refl, shown)) keeps at_it (recovery_ends start n before greeting end_alone nothing_more kept stop name mine spent told end at_it on)) quiet known whole all plays
   does_end kept stop (Trunc name size) old writer part ws lines left alive fits keeps quiet known whole all plays = spared_end kept stop (Trunc name size) old writer part ws lines left (truncates_spare kept alive stop name size) (λ mine outcome shown. shown) (λ mine spent told end at_it these on. told_end start sound n before greeting greets end_alone nothing_more kept (Trunc name size) old (λ events outcome. ShowsTruncate start n (record { before = before; events = greeting ++ events }) name size outcome) mine spent told end (λ m o shown. (refl, shown)) keeps at_it (trunc_ends start n before greeting end_alone nothing_more kept stop name size mine spent told end at_it on)) quiet known whole all plays
   does_end kept stop (Rename name to) old writer part ws lines left alive fits keeps quiet known whole all plays = spared_end kept stop (Rename name to) old writer part ws lines left (renames_spare kept alive stop name to) (λ mine outcome shown. shown) (λ mine spent told end at_it these on. told_end start sound n before greeting greets end_alone nothing_more kept (Rename name to) old (λ events outcome. ShowsRename start n (record { before = before; events = greeting ++ events }) name to outcome) mine spent told end (λ m o shown. (refl, shown)) keeps at_it (renaming_ends start n before greeting end_alone nothing_more kept stop name to mine spent told end at_it on)) quiet known whole all plays

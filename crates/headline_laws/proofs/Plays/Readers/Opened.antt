@@ -1,5 +1,5 @@
 -- A reader that was opened has one file.
-use Rattle.std.proofs.Common.{◌≡◌, ℕ, zero, suc, ◌+◌, ◌-◌, true, false, List, [], ◌∷◌, ◌++◌, length, map, filter, nat_lt, Option, Some, None, refl, sym, ap, ◌∙◌, subst, arith, append_assoc, eq-eqb, ne_eqb}
+use Rattle.std.proofs.Common.{◌≡◌, ℕ, zero, suc, ◌+◌, true, false, List, [], ◌∷◌, ◌++◌, length, map, filter, nat_lt, Option, Some, None, refl, sym, ap, ◌∙◌, subst, arith, append_assoc, eq-eqb, ne_eqb}
 use Rattle.std.specs.Prelude.{if◌then◌else◌, ◌==◌}
 use Rattle.std.specs.List.{All}
 use Rattle.std.proofs.lemmas.Bool.Decides.{nat_tests}
@@ -41,10 +41,10 @@ use Rattle.headline_laws.proofs.Plays.Callers.Standing.{Next, lawful_together}
 
 -- ---- the printed counts
 
-none_test : (n : ℕ) → n ≡ 0 → (n == 0) ≡ true
+pub none_test : (n : ℕ) → n ≡ 0 → (n == 0) ≡ true
 none_test n e = eq-eqb n 0 e
 
-some_test : (n k : ℕ) → n ≡ suc k → (n == 0) ≡ false
+pub some_test : (n k : ℕ) → n ≡ suc k → (n == 0) ≡ false
 some_test n k e = ne_eqb n 0 (λ none. omega (arith, e, none))
 
 above_none : (n k : ℕ) → n ≡ suc k → nat_lt 0 n ≡ true

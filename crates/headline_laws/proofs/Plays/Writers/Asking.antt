@@ -1,5 +1,6 @@
--- What each statement may ask: a container is made and entered by an opening alone, a write is one of a write, a truncate one of a truncate, and a new name one of a rename.
-use Rattle.std.proofs.Common.{◌≡◌, ℕ, Bool, true, false, List, length, nat_eq, nat_le, Option, Some, None, Result, Ok, Err, refl, sym}
+-- What each statement may ask: a container is made and entered by an opening alone, and held by a truncate or a rename. A write is one of a write, a truncate
+-- one of a truncate, and a new name one of a rename.
+use Rattle.std.proofs.Common.{◌≡◌, ◌⊎◌, inl, inr, ℕ, Bool, true, false, List, length, nat_eq, nat_le, Option, Some, None, Result, Ok, Err, refl, sym}
 use Rattle.std.specs.Prelude.{⊤, ◌==◌, if◌then◌else◌}
 use Rattle.mount_model.specs.declared.stuck.Stuck.{Stuck}
 use Rattle.mount_model.specs.Running.{unbroken}
@@ -7,7 +8,7 @@ use Rattle.mount_model.specs.Program.{AsksOnly, Program, ask, done, followed_by}
 use Rattle.mount_model.specs.Process.{asks}
 use Rattle.mount_model.specs.Paths.{Name}
 use Rattle.mount_model.specs.declared.call.Call.{Call}
-use Rattle.mount_model.specs.declared.call.Call.TheVariants.{Enter, Greet, MakeContainer, Mark, Move, Write}
+use Rattle.mount_model.specs.declared.call.Call.TheVariants.{Enter, Greet, Hold, MakeContainer, Mark, Move, Write}
 use Rattle.mount_model.proofs.Facts.{IsOnNoWriter}
 use Rattle.mount_model.specs.declared.reply.Reply.{Reply}
 use Rattle.mount_model.specs.declared.reply.Reply.TheVariants as reply
@@ -44,10 +45,15 @@ pub record IsItsWrite (kept : Kept) (s : Statement) (id at : ℕ) (block : List 
   pub says : s ≡ say.Write at content
   pub bytes : block ≡ bytes_of content
 
+-- it truncates or renames
+abbrev pub HoldsSo : Statement → Type 0
+HoldsSo s = ((name : Name) × (size : ℕ) × (s ≡ say.Trunc name size)) ⊎ ((name : Name) × (to : Name) × (s ≡ say.Rename name to))
+
 -- what the statement of an actor that keeps this may ask
 abbrev pub MayAsk : Kept → Statement → Call → Type 0
 MayAsk kept s (MakeContainer name) = s ≡ say.Open name
 MayAsk kept s (Enter room host most) = (name : List ℕ) × (s ≡ say.Open name)
+MayAsk kept s (Hold room) = HoldsSo s
 MayAsk kept s (Mark holder size top) = (name : Name) × (s ≡ say.Trunc name size)
 MayAsk kept s (Move holder to) = (name : Name) × (s ≡ say.Rename name to)
 MayAsk kept s (Write id at block) = IsItsWrite kept s id at block
@@ -56,6 +62,7 @@ MayAsk kept s call = ⊤
 quiet_may : (kept : Kept) (s : Statement) (call : Call) → IsQuiet call → MayAsk kept s call
 quiet_may kept s (MakeContainer name) quiet = absurd quiet
 quiet_may kept s (Enter room host most) quiet = absurd quiet
+quiet_may kept s (Hold room) quiet = absurd quiet
 quiet_may kept s (Mark holder size top) quiet = absurd quiet
 quiet_may kept s (Move holder to) quiet = absurd quiet
 quiet_may kept s (Write id at block) quiet = absurd quiet
@@ -201,13 +208,13 @@ module _ (kept : Kept) (left : Kept) (same : left.writer ≡ kept.writer) (stop 
   truncates_goes name size =
       let s : Statement = say.Trunc name size in
       carried_goes (MayAsk kept s) Anyhow left (truncate_program name size) stop (λ later result. finishes (truncated left result))
-      (truncate_asks (MayAsk kept s) (λ n. tt) (λ room look. tt) (λ room. tt) (λ holder. tt) size (λ holder top. (name, refl)) name) tt (λ later result. tt)
+      (truncate_asks (MayAsk kept s) (λ n. tt) (λ room look. tt) (λ room. inl (name, size, refl)) (λ holder. tt) size (λ holder top. (name, refl)) name) tt (λ later result. tt)
 
   renames_goes : (name to : Name) → MayAsks kept (say.Rename name to) (does left stop (say.Rename name to))
   renames_goes name to =
       let s : Statement = say.Rename name to in
       carried_goes (MayAsk kept s) Anyhow left (rename_program name to) stop (λ later result. finishes (renamed left result))
-      (rename_asks (MayAsk kept s) (λ n. tt) (λ room look. tt) (λ room. tt) (λ holder. tt) name to (λ holder. (name, refl))) tt (λ later result. tt)
+      (rename_asks (MayAsk kept s) (λ n. tt) (λ room look. tt) (λ room. inr (name, to, refl)) (λ holder. tt) name to (λ holder. (name, refl))) tt (λ later result. tt)
 
   module _ (alive : left.gone ≡ false) where
     does_goes : (s : Statement) → MayAsks kept s (does left stop s)

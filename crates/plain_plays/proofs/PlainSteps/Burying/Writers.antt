@@ -39,7 +39,7 @@ use Rattle.mount_sound.specs.Landed.{whole}
 use Rattle.mount_sound.specs.Owed.{IsLawful, May}
 use Rattle.mount_sound.specs.There.{entries_there, landed_in}
 use Rattle.refusal_laws.specs.Reasons.{IsChecked}
-use Rattle.mount_model.specs.Program.{Program, ask, done, followed_by}
+use Rattle.mount_model.specs.Program.{Program, done, followed_by}
 use Rattle.mount_model.specs.declared.names.OpenEntry.{OpenEntry}
 use Rattle.mount_model.specs.declared.stuck.Stuck.{Stuck}
 use Rattle.mount_model.specs.declared.stuck.Stuck.TheVariants as stuck

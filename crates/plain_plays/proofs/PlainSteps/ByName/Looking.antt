@@ -103,7 +103,7 @@ module _ (m : Moment) (sound : IsSoundAt m) where
     serial = ap (λ (s : State). s.serial) is;
   }
 
-  same_state : (call : Call) (reply : Reply) (after : State) → after ≡ m.state → issued_after m.issued m.state call reply ≡ m.issued → IsAlike m (record { state = after; issued = issued_after m.issued m.state call reply })
+  pub same_state : (call : Call) (reply : Reply) (after : State) → after ≡ m.state → issued_after m.issued m.state call reply ≡ m.issued → IsAlike m (record { state = after; issued = issued_after m.issued m.state call reply })
   same_state call reply after is issued = record {
     tree = ap (λ (s : State). s.store.tree) is;
     issued = issued;

@@ -41,7 +41,7 @@ use Rattle.torn_tail.specs.Recovering.{hold_mended, lists_open, mends_hold}
 use Rattle.writer_flow.specs.declared.handle.WriterHandle.{WriterHandle}
 use Rattle.plain_machine.specs.Machine.{Plain, PlainActor, PlainRoom}
 use Rattle.plain_machine.specs.Becoming.{with_room}
-use Rattle.plain_machine.specs.ByName.{dead, let_go}
+use Rattle.plain_machine.specs.ByName.{let_go}
 use Rattle.plain_machine.specs.Statements.{Takes}
 use Rattle.plain_plays.specs.Mirrors.{Mirrors, MirrorsRoom, room_then, room_told}
 use Rattle.plain_plays.specs.Served.{GoesWell}

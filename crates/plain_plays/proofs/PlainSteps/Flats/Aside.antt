@@ -28,6 +28,7 @@ use Rattle.writer_flow.specs.declared.handle.WriterHandle.{WriterHandle}
 use Rattle.plain_machine.specs.Machine.{Plain, PlainActor, PlainRoom}
 use Rattle.plain_machine.specs.Becoming.{drawn}
 use Rattle.plain_machine.specs.Statements.{Takes}
+use Rattle.plain_plays.specs.ByItself.{having_drawn}
 use Rattle.plain_plays.specs.Mirrors.{Mirrors, MirrorsRoom, room_then, room_told}
 use Rattle.plain_plays.specs.Stepping.{HasActor, TakesStep}
 use Rattle.plain_plays.proofs.PlainSteps.ByName.Looking.{IsAlike}
@@ -73,16 +74,20 @@ pub record StaysSo (n more : ℕ) (old : Room) (m next : Moment) : Type 0 where
   pub holders : next.state.table.holders ≡ m.state.table.holders
   pub serial : next.state.serial ≡ m.state.serial + more
 
--- no further serial was drawn
-pub stays_on : (n more : ℕ) (old : Room) (a b c : Moment) (x : StaysSo n more old a b) → StaysSo n 0 x.new b c → StaysSo n more old a c
-stays_on n more old a b c x y = record {
+-- one after the other
+pub stays_both : (n more later total : ℕ) (old : Room) (a b c : Moment) (x : StaysSo n more old a b) → StaysSo n later x.new b c → total ≡ more + later → StaysSo n total old a c
+stays_both n more later total old a b c x y all = record {
   new = y.new;
   turns = turns_both n old x.new y.new a b c x.turns y.turns;
   shown = shown_both old x.new y.new x.shown y.shown;
   times = y.times ∙ x.times;
   holders = y.holders ∙ x.holders;
-  serial = let first = x.serial in let then_so = y.serial in omega (arith, first, then_so);
+  serial = let first = x.serial in let then_so = y.serial in omega (arith, first, then_so, all);
 }
+
+-- no further serial was drawn
+pub stays_on : (n more : ℕ) (old : Room) (a b c : Moment) (x : StaysSo n more old a b) → StaysSo n 0 x.new b c → StaysSo n more old a c
+stays_on n more old a b c x y = stays_both n more 0 more old a b c x y (omega arith)
 
 -- so it is where nothing has changed
 pub stays_alike : (n : ℕ) (old : Room) (m next : Moment) → room_then m n ≡ Some old → IsAlike m next → StaysSo n 0 old m next
@@ -170,13 +175,18 @@ module _ (n more : ℕ) (old : Room) (m next : Moment) (y : StaysSo n more old m
   pub room_stays : (room : PlainRoom) → (n ≡ m.state.marks → ⊥) → MirrorsRoom m n old room → MirrorsRoom next n y.new room
   room_stays room apart o = room_so n old y.new m next y.turns y.shown.droppings room room.name room.is_held room.truncs o (y.shown.name ∙ o.name) (y.shown.opens ∙ o.held apart) (truncs_stay room.truncs o.truncs)
 
+-- so many serials were drawn
+module _ (n more : ℕ) (old : Room) (m next : Moment) (y : StaysSo n more old m next) (sound : IsSoundAt next) (p : Plain) (o : Mirrors m p) (room : PlainRoom) (there : slice_get p.rooms n ≡ Some room) (apart : n ≡ m.state.marks → ⊥) (shows : MirrorsRoom m n old room) where
+  pub machine_drawn_by : Mirrors next (having_drawn more p)
+  machine_drawn_by = machine_turned n old y.new m next y.turns y.shown.droppings p (having_drawn more p) room room there there (λ j other. refl) sound o (room_stays n more old m next y room apart shows) (y.times ∙ o.times) refl (y.serial ∙ ap (λ k. k + more) o.serial) (y.holders ∙ o.none_hold)
+
 -- where one serial was drawn
 module _ (n : ℕ) (old : Room) (m next : Moment) (y : StaysSo n 1 old m next) (sound : IsSoundAt next) (p : Plain) (o : Mirrors m p) (room : PlainRoom) (there : slice_get p.rooms n ≡ Some room) (apart : n ≡ m.state.marks → ⊥) (shows : MirrorsRoom m n old room) where
   serial_is : next.state.serial ≡ (drawn p).serial
   serial_is = y.serial ∙ ap (λ k. k + 1) o.serial
 
   pub machine_drawn : Mirrors next (drawn p)
-  machine_drawn = machine_turned n old y.new m next y.turns y.shown.droppings p (drawn p) room room there there (λ j other. refl) sound o (room_stays n 1 old m next y room apart shows) (y.times ∙ o.times) refl serial_is (y.holders ∙ o.none_hold)
+  machine_drawn = machine_drawn_by n 1 old m next y sound p o room there apart shows
 
   -- The statement has this outcome, and the machine has drawn a serial.
   pub drawn_takes : (me : ℕ) (declared : ActorDecl) (actor : PlainActor) (statement : Statement) (outcome : Outcome) (handle : Option WriterHandle) → HasActor m me p handle actor → Takes me declared actor p statement outcome (drawn p) → TakesStep m me declared actor p statement outcome next handle

@@ -88,10 +88,10 @@ use Rattle.plain_plays.proofs.PlainSteps.Flats.Installing.{IsInstalled, Underway
 -- ---- its programs
 
 -- all that was read
-abbrev all_of : Listing → List Share → List Trunc → AllRead
+abbrev pub all_of : Listing → List Share → List Trunc → AllRead
 all_of listing shares truncs = record { listed = listing; shares = shares; truncs = truncs }
 
-threefold : {A B C : Type 0} (p : Program Call Reply A) (next : A → Program Call Reply B) (last : B → Program Call Reply C) → followed_by (followed_by p next) last ≡ followed_by p (λ a. followed_by (next a) last)
+pub threefold : {A B C : Type 0} (p : Program Call Reply A) (next : A → Program Call Reply B) (last : B → Program Call Reply C) → followed_by (followed_by p next) last ≡ followed_by p (λ a. followed_by (next a) last)
 threefold (done a) next last = refl
 threefold (ask call k) next last = λ i. ask call (λ reply. threefold (k reply) next last i)
 
@@ -120,7 +120,7 @@ abbrev Flat_of : Plain → PlainRoom → Outcome → Plain → Type 0
 Flat_of p room outcome new = When (is_spent p) (IsRefused outcome IdsSpent p new)
     ((pieces : List Piece) × ArePieces (entries_in (landed_writes room.writers)) [] pieces × (outcome ≡ Told (next_of p) (length pieces) (counts room.writers)) × (new ≡ drawn p))
 
-alike_by : (m : Moment) (event : Event) → event.after ≡ m.state → (next_moment m event).issued ≡ m.issued → IsAlike m (next_moment m event)
+pub alike_by : (m : Moment) (event : Event) → event.after ≡ m.state → (next_moment m event).issued ≡ m.issued → IsAlike m (next_moment m event)
 alike_by m event same issued = record {
   tree = ap (λ (s : State). s.store.tree) same;
   issued = issued;
@@ -145,7 +145,7 @@ module _ (me : ℕ) (p : Plain) (handle : Option WriterHandle) (actor : PlainAct
     unspent : (x : Moment) → IsSoundAt x → x.state.serial ≡ b.state.serial + 1 → is_spent p ≡ false
     unspent x sx serial = let fits = sx.regular.serial_fits in let s = o.serial in let less : p.serial < 2 ^ 32 - 1 = omega (arith, fits, serial, s) in grind (arith, nat_tests)
 
-    begun_takes : (flat : ℕ) (x : Moment) → IsSoundAt x → IsContainerAt n x → StaysSo n 1 old b x → HasFlat me n flat Begun x.state.table → flat ≡ next_id b.state → (events : List Event) (out : Result Flattened Stuck) → IsLawful x.state events → GoesWell me events → AreBy me events → Runs me (lists (record { room = n; flat = flat })) events out
+    begun_takes : (flat : ℕ) (x : Moment) → IsSoundAt x → IsContainerAt n x → StaysSo n 1 old b x → HasFlat making.Flat me n flat Begun x.state.table → flat ≡ next_id b.state → (events : List Event) (out : Result Flattened Stuck) → IsLawful x.state events → GoesWell me events → AreBy me events → Runs me (lists (record { room = n; flat = flat })) events out
         → Step b (flatten_outcome out) (moment_after x events)
     begun_takes flat x sx hx y f id events out lawful well by runs =
         let started : Started = record { room = n; flat = flat } in

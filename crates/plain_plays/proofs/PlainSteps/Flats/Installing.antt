@@ -8,6 +8,7 @@ use Rattle.store_api.specs.declared.tree.Room.{Room}
 use Rattle.mount_model.specs.declared.call.Call.TheVariants.{InstallFlat, PutFlat, SyncDropping, SyncFlat}
 use Rattle.mount_model.specs.declared.row.FlatStage.{FlatStage}
 use Rattle.mount_model.specs.declared.row.FlatStage.TheVariants.{Begun, Put, Synced}
+use Rattle.mount_model.specs.declared.row.Making.TheVariants as making
 use Rattle.mount_model.specs.History.{AreBy, Event}
 use Rattle.mount_model.specs.Step.{Answers}
 use Rattle.mount_model.specs.Table.{flattening_of}
@@ -58,7 +59,7 @@ module _ (start : Moment) (old : Room) (me n flat : ℕ) (bytes : List ℕ) wher
     pub sound : IsSoundAt x
     pub had : IsContainerAt n x
     pub stays : StaysSo n 1 old start x
-    pub has : HasFlat me n flat stage x.state.table
+    pub has : HasFlat making.Flat me n flat stage x.state.table
 
   -- The bytes were put where they were right for the room, and installed.
   pub record IsInstalled (last : Moment) : Type 0 where

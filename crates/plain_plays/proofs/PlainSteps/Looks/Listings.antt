@@ -82,7 +82,7 @@ module _ (n : ℕ) where
   required_ends : (name : Name) (path : Path) (names : List Name) (next : Result (List ℕ) Stuck) → EndsSo Anything next → EndsSo Anything (required name path names next)
   required_ends name path names next ends = either_ends {X = List ℕ} (has_name name names) next (Err (damage path 0)) ends tt
 
-  top_ends : (names : List Name) → EndsSo Anything (top_shows names)
+  pub top_ends : (names : List Name) → EndsSo Anything (top_shows names)
   top_ends names =
       let all : Result (List ℕ) Stuck = Ok (shown names hostdirs) in
       let with_truncs = required truncs (file_in truncs []) names all in
@@ -120,7 +120,7 @@ module _ (n : ℕ) where
   listed_ends id flat scan = none_or (λ o. EndsSo IsOf (unless_uncovered id o (unless_lone (lone_pack scan.indices scan.packs) (Ok (listing_of n flat scan))))) (uncovered scan.indices 0 flat.covers)
       (none_or (λ o. EndsSo IsOf (unless_lone o (Ok (listing_of n flat scan)))) (lone_pack scan.indices scan.packs) refl (λ other. tt)) (λ index. tt)
 
-  scans_on : (id : ℕ) (flat : Flat) (ks : List ℕ) (scan : Scan) → LooksOn n IsOf (scans n id flat ks scan)
+  pub scans_on : (id : ℕ) (flat : Flat) (ks : List ℕ) (scan : Scan) → LooksOn n IsOf (scans n id flat ks scan)
   scans_on id flat [] scan = listed_ends id flat scan
   scans_on id flat (k ∷ ks) scan = (
     (_, refl),

@@ -73,7 +73,7 @@ reader_stays m events None (Some file) lawful o = absurd o
 reader_stays m events (Some reader) None lawful o = absurd o
 
 -- its bytes are the file's
-seen_bytes : (m : Moment) (reader : OpenReader) (file : PlainReader) (o : MirrorsReader m reader file) → view o.until o.cut reader.truncs ≡ bytes_seen file
+pub seen_bytes : (m : Moment) (reader : OpenReader) (file : PlainReader) (o : MirrorsReader m reader file) → view o.until o.cut reader.truncs ≡ bytes_seen file
 seen_bytes m reader file o =
     ap (λ ws. bytes_seen (record { room = file.room; writes = ws; truncs = reader.truncs })) o.writes ∙ ap (λ ts. bytes_seen (record { room = file.room; writes = file.writes; truncs = ts })) o.truncs
 

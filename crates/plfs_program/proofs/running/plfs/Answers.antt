@@ -5,7 +5,10 @@ use Rattle.program_ends.specs.Ends.{ends_of, Ends}
 use Rattle.plfs_program.proofs.Courses.CourseLaws.{course_leaves, course_undamaged}
 use Rattle.plfs_program.proofs.Courses.CompleteLaws.{course_done}
 use Rattle.plfs_program.proofs.Courses.PlainCats.{course_cats}
+use Rattle.plfs_program.proofs.Courses.PlainMigrations.{course_migrates}
+use Rattle.plfs_program.proofs.Courses.PlainPacks.{course_packs}
 use Rattle.plfs_program.proofs.Courses.PlainRuns.{course_plain}
+use Rattle.plfs_program.proofs.Courses.PlainSmallRuns.{course_names, course_unpacks}
 use Rattle.plfs_program.proofs.running.plfs.Goals as goal
 
 pub returns-clause-undamaged : goal.returns-clause-undamaged
@@ -29,4 +32,8 @@ returns-clause-plain g c quiet fed =
     record {
       plays = λ script shows asks. course_plain c.scripts_are_told_apart.ensures.one_script c.scripts_are_told_apart.ensures.never_both (g.I.Input.given c.args.input.now) (g.I.Input.given c.follow.new.input) e c.follow.result.status quiet fed IsServed (λ asked served. inl served) c.args.words.now script shows asks c.follow.ensures;
       cats = λ name is. course_cats (g.I.Input.given c.args.input.now) (g.I.Input.given c.follow.new.input) e c.follow.result.status quiet fed IsServed (λ asked served. inl served) c.args.words.now name is c.follow.ensures;
+      unpacks = λ name file is. course_unpacks (g.I.Input.given c.args.input.now) (g.I.Input.given c.follow.new.input) e c.follow.result.status quiet fed IsServed (λ asked served. inl served) c.args.words.now name file is (c.small_files_are_the_machines.ensures.unpacks name file (g.I.Input.given c.args.input.now) (g.I.Input.given c.follow.new.input) e c.follow.result.status quiet fed) c.follow.ensures;
+      names = λ name is. course_names (g.I.Input.given c.args.input.now) (g.I.Input.given c.follow.new.input) e c.follow.result.status quiet fed IsServed (λ asked served. inl served) c.args.words.now name is (c.small_files_are_the_machines.ensures.names name (g.I.Input.given c.args.input.now) (g.I.Input.given c.follow.new.input) e c.follow.result.status quiet fed) c.follow.ensures;
+      migrates = λ name is. course_migrates (g.I.Input.given c.args.input.now) (g.I.Input.given c.follow.new.input) e c.follow.result.status quiet fed IsServed (λ asked served. inl served) c.args.words.now name is (c.small_files_are_the_machines.ensures.migrates name (g.I.Input.given c.args.input.now) (g.I.Input.given c.follow.new.input) e c.follow.result.status quiet fed) c.follow.ensures;
+      packs = λ name region bytes files is told spelled. course_packs c.packings_are_plain.ensures.over_a_store c.inputs_are_told_apart.ensures.one_input c.inputs_are_told_apart.ensures.never_both (g.I.Input.given c.args.input.now) (g.I.Input.given c.follow.new.input) e c.follow.result.status quiet fed IsServed (λ asked served. inl served) c.args.words.now name region bytes files is told spelled c.follow.ensures;
     }

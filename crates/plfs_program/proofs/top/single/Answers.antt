@@ -4,7 +4,10 @@ use Rattle.program_ends.specs.Ends.{ends_of, Ends}
 use Rattle.plfs_program.proofs.Courses.CourseLaws.{course_leaves, course_undamaged}
 use Rattle.plfs_program.proofs.Courses.CompleteLaws.{course_done}
 use Rattle.plfs_program.proofs.Courses.PlainCats.{course_cats}
+use Rattle.plfs_program.proofs.Courses.PlainMigrations.{course_migrates}
+use Rattle.plfs_program.proofs.Courses.PlainPacks.{course_packs}
 use Rattle.plfs_program.proofs.Courses.PlainRuns.{course_plain}
+use Rattle.plfs_program.proofs.Courses.PlainSmallRuns.{course_names, course_unpacks}
 use Rattle.plfs_program.proofs.top.single.Goals as goal
 
 pub returns-clause-undamaged : goal.returns-clause-undamaged
@@ -28,9 +31,22 @@ returns-clause-plain g c quiet fed =
     record {
       plays = λ script shows asks. course_plain c.scripts_are_told_apart.ensures.one_script c.scripts_are_told_apart.ensures.never_both (g.I.Input.given c.args.input.now) (g.I.Input.given c.follow.new.input) e c.follow.result.status quiet fed IsBuiltCommand (λ asked served. served) c.args.words.now script shows asks c.follow.ensures;
       cats = λ name is. course_cats (g.I.Input.given c.args.input.now) (g.I.Input.given c.follow.new.input) e c.follow.result.status quiet fed IsBuiltCommand (λ asked served. served) c.args.words.now name is c.follow.ensures;
+      unpacks = λ name file is. course_unpacks (g.I.Input.given c.args.input.now) (g.I.Input.given c.follow.new.input) e c.follow.result.status quiet fed IsBuiltCommand (λ asked served. served) c.args.words.now name file is (c.small_files_are_the_machines.ensures.unpacks name file (g.I.Input.given c.args.input.now) (g.I.Input.given c.follow.new.input) e c.follow.result.status quiet fed) c.follow.ensures;
+      names = λ name is. course_names (g.I.Input.given c.args.input.now) (g.I.Input.given c.follow.new.input) e c.follow.result.status quiet fed IsBuiltCommand (λ asked served. served) c.args.words.now name is (c.small_files_are_the_machines.ensures.names name (g.I.Input.given c.args.input.now) (g.I.Input.given c.follow.new.input) e c.follow.result.status quiet fed) c.follow.ensures;
+      migrates = λ name is. course_migrates (g.I.Input.given c.args.input.now) (g.I.Input.given c.follow.new.input) e c.follow.result.status quiet fed IsBuiltCommand (λ asked served. served) c.args.words.now name is (c.small_files_are_the_machines.ensures.migrates name (g.I.Input.given c.args.input.now) (g.I.Input.given c.follow.new.input) e c.follow.result.status quiet fed) c.follow.ensures;
+      packs = λ name region bytes files is told spelled. course_packs c.packings_are_plain.ensures.over_a_store c.inputs_are_told_apart.ensures.one_input c.inputs_are_told_apart.ensures.never_both (g.I.Input.given c.args.input.now) (g.I.Input.given c.follow.new.input) e c.follow.result.status quiet fed IsBuiltCommand (λ asked served. served) c.args.words.now name region bytes files is told spelled c.follow.ensures;
     }
 
 pub returns-clause-repeatable : goal.returns-clause-repeatable
 returns-clause-repeatable g c input another later f other told told_too alike quiet quiet_too fed fed_too again =
     let e : Ends = ends_of (g.C.Clock.times c.args.clock) (g.O.Sink.taking c.args.out.now) (g.O.Sink.taking c.follow.new.out) (g.S.Store.stored c.args.store) (option_map g.S.Store.stored c.follow.result.store) in
     c.single_runs_print_the_same.ensures c.args.words.now input (g.I.Input.given c.args.input.now) (g.I.Input.given c.follow.new.input) another later e f c.follow.result.status other told told_too alike quiet quiet_too fed fed_too c.follow.ensures again
+
+pub returns-clause-repeatable_with_faults : goal.returns-clause-repeatable_with_faults
+returns-clause-repeatable_with_faults g c =
+    let e : Ends = ends_of (g.C.Clock.times c.args.clock) (g.O.Sink.taking c.args.out.now) (g.O.Sink.taking c.follow.new.out) (g.S.Store.stored c.args.store) (option_map g.S.Store.stored c.follow.result.store) in
+    record {
+      course = c.follow.ensures;
+      again = λ input another later f other failures told told_too alike calm calm_too repeated fails too still.
+          c.faulted_runs_print_the_same.ensures c.args.words.now input (g.I.Input.given c.args.input.now) (g.I.Input.given c.follow.new.input) another later e f c.follow.result.status other failures told told_too alike calm calm_too c.follow.ensures repeated fails too still;
+    }

@@ -1,51 +1,28 @@
-use Rattle.std.proofs.Common.{rules, sym, ◌∙◌}
-use Rattle.shape_check.specs.Files.{IsPlaced}
-use Rattle.shape_check.proofs.Facts.{all_found_by, looked_same}
-use Rattle.mount_model.specs.Paths.{index_path}
-use Rattle.tree_check.specs.Concerning.{IsOfEntries, IsOfWriter}
+use Rattle.std.proofs.Common.{rules}
 use Rattle.tree_check.specs.Indices.{IsOwned}
-use Rattle.tree_check.proofs.DroppingLemmas.{kept_now, orderly_landed}
-use Rattle.tree_check.proofs.Failing.{all_fail_for, none_left}
-use Rattle.tree_check.proofs.IndexLemmas.{cover_tells, no_index, no_owner}
+use Rattle.tree_check.proofs.DroppingLemmas.{orderly_landed}
+use Rattle.tree_check.proofs.Failing.{none_left}
+use Rattle.tree_check.proofs.IndexLemmas.{cover_tells, none_was_read, read_orderly}
 use Rattle.tree_check.proofs.indices.covered.Goals as goal
 
 pub returns-in_default-clause-ok : goal.returns-in_default-clause-ok
-returns-in_default-clause-ok g c = no_owner c.args.place.now c.args.owners.now c.args.cover.now (g.S.Store.stored c.args.store.now) (search rules)
-
-pub returns-in_err-has-clause-err : goal.returns-in_err-has-clause-err
-returns-in_err-has-clause-err g c =
-    let old = g.S.Store.stored c.args.store.now in
-    all_fail_for (IsOwned c.args.place.now c.args.owners.now) (IsPlaced c.args.place.now) old old (g.S.Store.stored c.has_file.new.store) c.from_residual.result (λ tree seen at. at.placed) (looked_same old) (search rules)
-
-pub returns-then-not-has-clause-ok : goal.returns-then-not-has-clause-ok
-returns-then-not-has-clause-ok g c =
-    no_index c.args.place.now c.args.owners.now c.args.cover.now c.in-Some.owner (g.S.Store.stored c.args.store.now) c.in_ok-has.has (sym c.owner_of.ensures ∙ c.in-Some.is) c.if-not-has.true (rw c.index_of.ensures at c.in_ok-has.ensures.ok)
-
-pub returns-in_err-dropping-clause-err : goal.returns-in_err-dropping-clause-err
-returns-in_err-dropping-clause-err g c =
-    all_fail_for (IsOwned c.args.place.now c.args.owners.now) (IsPlaced c.args.place.now) (g.S.Store.stored c.args.store.now) (g.S.Store.stored c.has_file.new.store) (g.S.Store.stored c.take_dropping.new.store) c.from_residual-in_err-dropping.result
-    (λ tree seen at. at.placed) c.has_file.ensures.looked (search rules)
+returns-in_default-clause-ok g c = none_was_read c.args.place.now c.args.owners.now c.args.cover.now c.in_ok-found.found (g.S.Store.stored c.args.store.now) (search rules) c.in_ok-found.ensures.ok
 
 pub landed-requires : goal.landed-requires
-landed-requires g c = c.in_ok-dropping.ensures.orderly.within
+landed-requires g c = (read_orderly c.args.place.now c.args.cover.now.writer c.in-Some.read (g.S.Store.stored c.read_covered.new.store) (rw c.in-Some.is at c.in_ok-found.ensures.read)).within
 
 pub first_pieces-requires : goal.first_pieces-requires
-first_pieces-requires g c = rw c.landed.ensures (orderly_landed c.args.cover.now.writer c.in_ok-dropping.dropping c.in_ok-dropping.ensures.orderly)
+first_pieces-requires g c =
+    rw c.landed.ensures (orderly_landed c.args.cover.now.writer c.in-Some.read.dropping (read_orderly c.args.place.now c.args.cover.now.writer c.in-Some.read (g.S.Store.stored c.read_covered.new.store) (rw c.in-Some.is at c.in_ok-found.ensures.read)))
 
 pub returns-in_err-pieces-clause-err : goal.returns-in_err-pieces-clause-err
 returns-in_err-pieces-clause-err g c =
-    none_left (IsOwned c.args.place.now c.args.owners.now) (g.S.Store.stored c.args.store.now) (g.S.Store.stored c.take_dropping.new.store) c.from_residual-in_err-pieces.result (search rules)
+    none_left (IsOwned c.args.place.now c.args.owners.now) (g.S.Store.stored c.args.store.now) (g.S.Store.stored c.read_covered.new.store) c.from_residual-in_err-pieces.result (search rules)
 
 pub returns-clause-ok : goal.returns-clause-ok
 returns-clause-ok g c =
-    cover_tells c.args.place.now c.args.owners.now c.args.cover.now c.in-Some.owner c.in_ok-dropping.dropping (g.S.Store.stored c.args.store.now) (g.S.Store.stored c.has_file.new.store) c.in_ok-has.has c.in_ok-pieces.pieces
-    (sym c.owner_of.ensures ∙ c.in-Some.is) c.if-not-has.false (rw c.index_of.ensures at c.in_ok-has.ensures.ok) c.has_file.ensures.looked c.in_ok-dropping.ensures.ok (rw c.landed.ensures at c.in_ok-pieces.ensures)
-
-pub returns-in_err-dropping-clause-named : goal.returns-in_err-dropping-clause-named
-returns-in_err-dropping-clause-named g c =
-    all_found_by c.args.place.now.name (IsOfEntries (index_path c.in-Some.owner.host c.args.cover.now.writer)) (IsOfWriter c.args.cover.now.writer) (λ complaint of. (c.in-Some.owner.host, of)) c.from_residual-in_err-dropping.result (search rules)
+    cover_tells c.args.place.now c.args.owners.now c.args.cover.now c.in-Some.read (g.S.Store.stored c.args.store.now) (g.S.Store.stored c.read_covered.new.store) c.in_ok-pieces.pieces c.read_covered.ensures.looked
+    (rw c.in-Some.is at c.in_ok-found.ensures.ok) (rw c.in-Some.is at c.in_ok-found.ensures.read) (rw c.landed.ensures at c.in_ok-pieces.ensures)
 
 pub returns-clause-kept : goal.returns-clause-kept
-returns-clause-kept g c =
-    kept_now c.args.place.now c.in-Some.owner.host c.args.cover.now.writer c.in_ok-dropping.dropping (g.S.Store.stored c.has_file.new.store) (g.S.Store.stored c.take_dropping.new.store) c.take_dropping.ensures.looked
-    c.in_ok-dropping.ensures.orderly c.in_ok-dropping.ensures.ok
+returns-clause-kept g c = (rw c.in-Some.is at c.in_ok-found.ensures.read).1

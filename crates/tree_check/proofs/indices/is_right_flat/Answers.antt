@@ -30,8 +30,8 @@ returns-in-Some-clause-err g c =
     all_fail_for (IsOwnedAt c.args.place.now c.args.owners.now c.args.path.now) (IsOwned c.args.place.now c.args.owners.now) (g.S.Store.stored c.args.store.now) (g.S.Store.stored c.bytes_or_none.new.store) (g.S.Store.stored c.are_covered.new.store) c.are_covered.result
     (λ tree seen at. at.owned) c.bytes_or_none.ensures.looked c.are_covered.ensures.err
 
-pub returns-clause-ok : goal.returns-clause-ok
-returns-clause-ok g c =
+pub returns-in-None-clause-ok : goal.returns-in-None-clause-ok
+returns-in-None-clause-ok g c =
     no_flat c.args.place.now c.args.owners.now c.args.path.now (g.S.Store.stored c.args.store.now) c.as_slice.result.now c.in_ok-found.ensures.short (rw c.as_slice.ensures c.in_ok-bytes.ensures.ok) (rw c.in-None.is at c.in_ok-found.ensures.decoded)
 
 pub returns-in_err-bytes-clause-named : goal.returns-in_err-bytes-clause-named
