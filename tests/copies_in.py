@@ -5,12 +5,10 @@ import os
 import re
 import shutil
 import signal
-import socket
-import struct
 import subprocess
 import time
 
-from trial import SECONDS, Skipped, check, ignore, listed, masked, same, size_limit, true
+from trial import SECONDS, Skipped, check, connected, ignore, listed, masked, reset, same, size_limit, true
 
 USAGE = "usage: plfs_copy ROOT put NAME [HOST] [--over] [--from FILE..]|get NAME|import DIR [HOST] [--over]|export DIR [--over]\n"
 # The bytes of one write.
@@ -205,14 +203,23 @@ def an_input_that_fails_in_its_middle_is_status_5_and_what_came_before_is_kept(t
 
 
 @check
+def a_read_that_fails_while_a_thread_reads_ahead_is_told_or_made_again(trial):
+    """Whichever thread makes it. What was written is a front of the file, and all of it where the status is 0."""
+    content = trial.random.randbytes(2**23 + 5)
+    puts(trial, content, "f")
+    told = []
+    for call in range(1, 24):
+        status, out, err = run(trial, "get", "f", **trial.watch([f"fail EIO read {call} */log.0.*"]))
+        true(f"at read {call} other bytes came out, or the status is {status}", status in (0, 4) and out == content[: len(out)])
+        true(f"at read {call} bytes are missing, and nothing is told ({err!r})", (status == 4) == (len(out) < len(content)) == bool(err))
+        told.append(status)
+    true("no fault was told, or each", 0 in told and 4 in told)
+
+
+@check
 def an_input_over_a_network_that_is_reset_in_its_middle_is_status_5_and_what_came_before_is_kept(trial):
     content = trial.random.randbytes(BLOCK + 100_000)
-    sender = socket.socket()
-    with socket.socket() as server:
-        server.bind(("127.0.0.1", 0))
-        server.listen()
-        sender.connect(server.getsockname())
-        receiver, _ = server.accept()
+    sender, receiver = connected()
     with receiver:
         started = start(trial, "put", "f", stdin=receiver)
     sender.sendall(content)
@@ -220,9 +227,7 @@ def an_input_over_a_network_that_is_reset_in_its_middle_is_status_5_and_what_cam
     while BLOCK not in [it.stat().st_size for it in (trial.root / "f" / "hostdir.0").glob("log.0.*")]:
         true("the first block was not written in time", time.monotonic() < end)
         time.sleep(0.01)
-    # With a linger of no time the connection isn't ended but reset.
-    sender.setsockopt(socket.SOL_SOCKET, socket.SO_LINGER, struct.pack("ii", 1, 0))
-    sender.close()
+    reset(sender)
     out, err = started.communicate(timeout=SECONDS)
     same(f"the end ({out!r})", (started.returncode, err), (5, b"plfs: standard input: read: Connection reset by peer (os error 104)\n"))
     kept = int(out.split()[1])

@@ -1,15 +1,13 @@
 """Long requests of the engine plfs_serve: while one is written, a thread reads the next ones."""
 
 import resource
-import socket
-import struct
 import subprocess
 import threading
 import time
 
 import engine_model as model
 from engines import ANSWER, answered, answers_in, are_answered_as_the_model_answers, engine, frame, has_no_dead, plfs, root_in_memory
-from trial import SECONDS, check, same, true
+from trial import SECONDS, check, connected, reset, same, true
 
 # So many bytes a request has at least for a thread to read on behind it.
 LONG = 1 << 15
@@ -73,18 +71,12 @@ def a_read_that_fails_behind_long_requests_is_told(trial):
 @check
 def requests_over_a_network_that_is_reset_behind_a_long_one_are_status_5(trial):
     frames, wanted = long_frames(4)
-    sender = socket.socket()
-    with socket.socket() as server:
-        server.bind(("127.0.0.1", 0))
-        server.listen()
-        sender.connect(server.getsockname())
-        receiver, _ = server.accept()
+    sender, receiver = connected()
     with receiver:
         started = subprocess.Popen([engine(trial), trial.root], stdin=receiver, stdout=subprocess.PIPE, stderr=subprocess.PIPE)
     sender.sendall(frames)
     same("the answers", len(started.stdout.read(6 * ANSWER.size)), 6 * ANSWER.size)
-    sender.setsockopt(socket.SOL_SOCKET, socket.SO_LINGER, struct.pack("ii", 1, 0))
-    sender.close()
+    reset(sender)
     out, err = started.communicate(timeout=SECONDS)
     same("the end", (started.returncode, out, err), (5, b"", b"plfs: standard input: read: Connection reset by peer (os error 104)\n"))
     same("the file", plfs(trial, "cat", "f"), wanted)

@@ -7,6 +7,8 @@ import re
 import resource
 import shutil
 import signal
+import socket
+import struct
 import subprocess
 from collections import namedtuple
 
@@ -49,6 +51,23 @@ def same(what, got, wanted):
 def true(what, fact):
     if not fact:
         raise Wrong(what)
+
+
+def connected():
+    """The two ends of a connection to this machine: the one that sends, and the one that receives."""
+    sender = socket.socket()
+    with socket.socket() as server:
+        server.bind(("127.0.0.1", 0))
+        server.listen()
+        sender.connect(server.getsockname())
+        receiver, _ = server.accept()
+    return sender, receiver
+
+
+def reset(sender):
+    """Resets the connection: with a linger of no time it isn't ended, and the other end's next read fails."""
+    sender.setsockopt(socket.SOL_SOCKET, socket.SO_LINGER, struct.pack("ii", 1, 0))
+    sender.close()
 
 
 def masked(text):
