@@ -324,6 +324,24 @@ def several_folders_take_what_is_put(trial):
 
 
 @check
+def a_file_stays_until_a_new_one_is_whole_where_that_is_put_beside_it_and_renamed(trial):
+    """With --over it doesn't: it is cut before the new bytes are there, and a put that fails leaves neither."""
+    content, limits = bytes(BLOCK // 4) * 3, [(ignore, signal.SIGXFSZ), (size_limit, BLOCK // 4)]
+    for name in ("f", "g"):
+        puts(trial, b"old", name)
+    same("the put beside it", run(trial, "put", "f.new", content=content, limits=limits)[:2], (4, b"0 fault\n"))
+    gets(trial, b"old", "f")
+    same("the put over it", run(trial, "put", "g", "--over", content=content, limits=limits)[:2], (4, b"0 fault\n"))
+    gets(trial, b"", "g")
+    same("the recovery", trial.run("", words=("recover", "f.new")).status, 0)
+    puts(trial, content, "f.new", "--over")
+    for old, new in (("f", "f.old"), ("f.new", "f")):
+        same(f"the rename of {old}", trial.run("", words=("rename", old, new)).out, "0 renamed\n")
+    gets(trial, content, "f")
+    gets(trial, b"old", "f.old")
+
+
+@check
 def a_folder_in_use_is_told_and_the_input_is_not_read(trial):
     started = start(trial, "put", "f", stdin=subprocess.PIPE)
     started.stdin.write(b"hello")

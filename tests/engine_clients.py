@@ -285,6 +285,26 @@ def a_mount_of_the_python_client_that_is_dropped_is_closed(trial):
 
 
 @check
+def a_python_program_mounts_anew_as_soon_as_nothing_names_its_mount(trial):
+    """Nothing has to collect cycles before that: an error that a mount met holds no frame that names it."""
+    plfs_client = client(trial)
+    gc.disable()
+    try:
+        for k in range(3):
+            fs = plfs_client.Mount(trial.root, engine=engine(trial))
+            fs.open("f", "wb").pwrite(b"kept", 4 * k)
+            try:
+                fs.open("away", "rb")
+                raise Wrong("a file that isn't there was opened")
+            except plfs_client.Error as error:
+                same("why", error.why, plfs_client.Why.NO_FILE)
+            del fs
+    finally:
+        gc.enable()
+    same("the file", plfs(trial, "cat", "f"), 3 * b"kept")
+
+
+@check
 def a_mount_of_the_python_client_that_failed_closes_nothing_later(trial):
     plfs_client = client(trial)
     door = trial.folder / "door"

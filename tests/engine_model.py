@@ -1,4 +1,4 @@
-"""A model of the engine's answers: what each request is answered where nothing fails, by the pages of crates/frame_format and
+"""A model of the engine's answers: what each request is answered where nothing fails, by the pages docs/ENGINE.md and
 crates/plain_machine alone."""
 
 import bisect

@@ -121,10 +121,25 @@ def the_root_script_says_which_word_is_no_name_of_a_file(trial):
         ended = copy.run("root", *words, script=copy.top / name)
         true(f"{words} say {ended.stderr!r}", ended.stderr == f"plfs: {shown}: {why}\n" or shown is None and ended.stderr.endswith(f": {why}\n"))
         same(f"what {words} print", (ended.returncode, ended.stdout), (0, "program <root>" + "".join(f" <{it}>" for it in words) + "\n"))
-    good = [("plfs", ("stat", 64 * "n")), ("plfs", ("rename", "_f", "9.-")), ("plfs", ("gen", "a/b")), ("plfs", ("stat",)), ("plfs", ("ls", "a/b")), ("plfs_copy", ("import", "a/b")),
-            ("plfs_copy", ("put", "f", "--from", "a/b")), ("plfs_check", ()), ("plfs_serve", ("a/b",))]
+    good = [("plfs", ("stat", 64 * "n")), ("plfs", ("rename", "_f", "9.-")), ("plfs", ("gen", "256")), ("plfs", ("gen",)), ("plfs", ("pack", "p", "0")), ("plfs", ("trunc", "f", "1" + 30 * "0")), ("plfs", ("stat",)), ("plfs", ("ls", "a/b")), ("plfs_copy", ("import", "a/b")),
+            ("plfs_copy", ("put", "f", "--from", "a/b")), ("plfs_copy", ("put", "f", "4294967295", "--over")), ("plfs_check", ()), ("plfs_serve", ("a/b",))]
     for name, words in good:
         is_quiet(copy.run("root", *words, script=copy.top / name), "program <root>" + "".join(f" <{it}>" for it in words) + "\n")
+
+
+@check
+def the_root_script_says_which_word_is_no_number(trial):
+    copy = Copy(trial)
+    copy.build(1)
+    (copy.top / "plfs_copy").symlink_to("plfs")
+    wrong = [("plfs", ("gen", "0"), "0", (1, 256)), ("plfs", ("gen", "08"), "08", (1, 256)), ("plfs", ("gen", "257"), "257", (1, 256)),
+             ("plfs", ("pack", "p", "256"), "256", (0, 255)), ("plfs", ("pack", "p", "a[0]"), "a\\[0\\]", (0, 255)), ("plfs", ("trunc", "f", "0x10"), "0x10", (0, 2**40)),
+             ("plfs", ("trunc", "f", ""), "''", (0, 2**40)), ("plfs_copy", ("put", "f", str(2**32)), str(2**32), (0, 2**32 - 1)),
+             ("plfs_copy", ("import", "a/b", "+1"), "+1", (0, 2**32 - 1))]
+    for name, words, shown, (least, most) in wrong:
+        ended = copy.run("root", *words, script=copy.top / name)
+        same(f"what {words} say", ended.stderr, f"plfs: {shown}: no number from {least} to {most}, in decimal digits without leading zeros\n")
+        same(f"what {words} print", (ended.returncode, ended.stdout), (0, "program <root>" + "".join(f" <{it}>" for it in words) + "\n"))
 
 
 @check

@@ -26,10 +26,23 @@ extern char **environ;
 /* How an answer says that it went. */
 enum status { MADE = 0, REFUSED = 1, NO_REQUEST = 2, NO_MEMORY = 3, FAULT = 4, DAMAGED = 7 };
 
-/* LENT: from so many bytes on a request's bytes aren't copied into the pipe. TAKEN_UP: milliseconds, long behind the reading of a name that announces a
- * process, in which an engine opens that process's pipes. DYING: milliseconds in which an engine that is killed closes all of its own.
- * WAIT: seconds in which an engine may begin, where PLFS_WAIT says nothing else. STEP: milliseconds between two looks whether it did. */
-enum { HEAD = 48, ANSWER = 32, PIPE = 1 << 20, LENT = 1 << 15, TAKEN_UP = 1000, DYING = 100, WAIT = 5, STEP = 20 };
+/* PIPE: bytes of a pipe, where the system allows so many. LENT: from so many bytes on a request's bytes aren't
+ * copied into the pipe. LONG: from so many on their head goes alone. LISTENED: nanoseconds in which a thread looks for an answer before it sleeps.
+ * MISSED: for so many answers it leaves that out at most. TAKEN_UP: milliseconds, long behind the reading of a name that announces a process, in which
+ * an engine opens that process's pipes. DYING: milliseconds in which an engine that is killed closes all of its own. WAIT: seconds in which an engine
+ * may begin, where PLFS_WAIT says nothing else. STEP: milliseconds between two looks whether it did. */
+enum {
+    ANSWER = 32,
+    PIPE = 1 << 20,
+    LENT = 1 << 15,
+    LONG = 1 << 18,
+    LISTENED = 100000,
+    MISSED = 64,
+    TAKEN_UP = 1000,
+    DYING = 100,
+    WAIT = 5,
+    STEP = 20
+};
 
 /* ---- bytes on pipes */
 
@@ -43,38 +56,24 @@ static uint64_t get(const unsigned char *at) {
     return n;
 }
 
-/* Has the pipe refer to the program's own pages, so that they are copied once less. The answer comes only once they have been read,
- * and the call waits for it. Answers how many bytes the pipe has taken: fewer than all where the system doesn't do it. */
-static size_t lend(int fd, const void *bytes, size_t len) {
-    size_t lent = 0;
-    while (lent < len) {
-        struct iovec part = {(char *)(uintptr_t)bytes + lent, len - lent};
-        ssize_t taken = vmsplice(fd, &part, 1, 0);
-        if (taken < 0 && errno == EINTR) continue;
-        if (taken <= 0) break;
-        lent += (size_t)taken;
-    }
-    return lent;
-}
+/* Which parts of a request are lent: they aren't copied, since the pipe refers to the program's own pages. The answer comes only once they have been
+ * read, and the call waits for it. */
+enum lent { NOTHING, BYTES, BOTH };
 
-/* Sends the head, where there is one, and the bytes. -1 where the engine reads no more. */
-static int send_parts(int fd, void *head, const void *bytes, size_t len) {
-    struct iovec parts[2] = {{head, head ? HEAD : 0}, {(void *)(uintptr_t)bytes, len}};
-    int k = 0;
-    if (len >= LENT) {
-        if (send_parts(fd, head, NULL, 0)) return -1;
-        size_t lent = lend(fd, bytes, len);
-        parts[1].iov_base = (char *)parts[1].iov_base + lent;
-        parts[1].iov_len -= lent;
-        k = 1;
-    }
-    while (k < 2) {
+/* Sends both parts. -1 where the engine reads no more. */
+static int send_parts(int fd, struct iovec parts[2], enum lent lent) {
+    for (int k = 0; k < 2;) {
         if (parts[k].iov_len == 0) {
             k++;
             continue;
         }
-        ssize_t sent = writev(fd, parts + k, 2 - k);
+        const int is_lent = lent == BOTH || (lent == BYTES && k == 1), count = lent == BYTES ? 1 : 2 - k;
+        ssize_t sent = is_lent ? vmsplice(fd, parts + k, (size_t)count, 0) : writev(fd, parts + k, count);
         if (sent < 0 && errno == EINTR) continue;
+        if (sent <= 0 && is_lent) {
+            lent = NOTHING; /* the system doesn't do it */
+            continue;
+        }
         if (sent < 0) return -1;
         for (; k < 2 && (size_t)sent >= parts[k].iov_len; k++) sent -= (ssize_t)parts[k].iov_len;
         if (k < 2) {
@@ -86,7 +85,7 @@ static int send_parts(int fd, void *head, const void *bytes, size_t len) {
 }
 
 /* The same, while a SIGPIPE that it makes doesn't come to the program. */
-static int send_all(int fd, void *head, const void *bytes, size_t len) {
+static int send_all(int fd, struct iovec parts[2], enum lent lent) {
     sigset_t pipes, before, pending;
     sigemptyset(&pipes);
     sigaddset(&pipes, SIGPIPE);
@@ -96,13 +95,34 @@ static int send_all(int fd, void *head, const void *bytes, size_t len) {
         sigpending(&pending);
         ours = !sigismember(&pending, SIGPIPE);
     }
-    int failed = send_parts(fd, head, bytes, len);
+    int failed = send_parts(fd, parts, lent);
     if (failed && ours) {
         struct timespec none = {0, 0};
         while (sigtimedwait(&pipes, NULL, &none) < 0 && errno == EINTR) {}
     }
     pthread_sigmask(SIG_SETMASK, &before, NULL);
     return failed;
+}
+
+static uint64_t now(void) {
+    struct timespec t;
+    clock_gettime(CLOCK_MONOTONIC, &t);
+    return (uint64_t)t.tv_sec * 1000000000 + (uint64_t)t.tv_nsec;
+}
+
+/* Looks for an answer a while. A thread that sleeps has to be woken by the engine, which makes no request meanwhile.
+ * Where no answer comes so soon, the next ones aren't looked for. Processes that share an engine would take the processors from each other. */
+static void listen_for_answer(struct plfs_engine *engine) {
+    struct pollfd end = {.fd = engine->from, .events = POLLIN};
+    if (engine->process == 0 || engine->begin < engine->end || engine->unheard++ < engine->missed) return;
+    engine->unheard = 0;
+    for (uint64_t until = now() + LISTENED; now() < until;) {
+        if (poll(&end, 1, 0)) {
+            engine->missed = 0;
+            return;
+        }
+    }
+    engine->missed = engine->missed < MISSED / 2 ? 2 * engine->missed + 1 : MISSED;
 }
 
 /* Takes the next n bytes of answers: those that were read ahead first. */
@@ -232,6 +252,7 @@ static int take_answer(struct plfs_engine *engine, const struct plfs_waiting *wa
     unsigned char answer[ANSWER];
     int kept_out = engine->door >= 0 ? wait_in(engine) : 0;
     if (kept_out) return kept_out;
+    listen_for_answer(engine);
     if (take_all(engine, answer, ANSWER)) return PLFS_GONE;
     uint64_t status = get(answer + 8), len = get(answer + 24);
     told->value = get(answer + 16);
@@ -245,6 +266,7 @@ static int take_answer(struct plfs_engine *engine, const struct plfs_waiting *wa
 static void tell(struct plfs_engine *engine, const struct plfs_waiting *own, int error) {
     struct plfs_waiting *waiting = engine->first;
     engine->first = waiting->next;
+    engine->told = waiting->number;
     waiting->error = error;
     waiting->is_told = 1;
     if (waiting != own) sem_post(&waiting->woken);
@@ -280,12 +302,30 @@ static void take_answers(struct plfs_engine *engine, const struct plfs_waiting *
     pthread_mutex_unlock(&engine->lock);
 }
 
-/* Why no further request is made: 0, or an error. */
-static int gone(struct plfs_engine *engine) {
+/* Why no further request is made: 0, or an error. *told: the number of the last request that was told. */
+static int gone(struct plfs_engine *engine, uint64_t *told) {
     pthread_mutex_lock(&engine->lock);
     int error = engine->gone;
+    *told = engine->told;
     pthread_mutex_unlock(&engine->lock);
     return error;
+}
+
+/* Which parts of this request are lent. A head is lent where it stands until the answer has come, and then the engine is woken once. Before very
+ * many bytes it goes alone, and the engine makes room for them meanwhile. */
+static enum lent lent_of(const struct plfs_asked *a, uint64_t number, uint64_t told) {
+    if (a->len < LENT) return NOTHING;
+    return a->len < LONG && number - told <= PLFS_HEADS ? BOTH : BYTES;
+}
+
+static int send_asked(struct plfs_engine *engine, const struct plfs_asked *a, uint64_t number, uint64_t told) {
+    const uint64_t numbers[PLFS_HEAD / 8] = {a->kind, a->actor, number, a->place, a->extent, a->len};
+    unsigned char own[PLFS_HEAD];
+    const enum lent lent = lent_of(a, number, told);
+    unsigned char *head = lent == BOTH ? engine->heads[number % PLFS_HEADS] : own;
+    for (int i = 0; i < PLFS_HEAD / 8; i++) put(head + 8 * i, numbers[i]);
+    struct iovec parts[2] = {{head, PLFS_HEAD}, {(void *)(uintptr_t)a->bytes, a->len}};
+    return send_all(engine->to, parts, lent);
 }
 
 /* Puts a request that was sent behind the others, or one that could not be sent nowhere. 0, or an error. *hears: its thread takes the answers. */
@@ -308,14 +348,11 @@ static int wait_behind(struct plfs_engine *engine, struct plfs_waiting *own, int
 }
 
 static int send_request(struct plfs_engine *engine, struct plfs_waiting *own, int *hears) {
-    const struct plfs_asked *a = own->asked;
-    unsigned char head[HEAD];
-    int error = gone(engine);
+    uint64_t told;
+    int error = gone(engine, &told);
     if (error) return error;
     own->number = ++engine->number;
-    const uint64_t numbers[HEAD / 8] = {a->kind, a->actor, own->number, a->place, a->extent, a->len};
-    for (int i = 0; i < HEAD / 8; i++) put(head + 8 * i, numbers[i]);
-    return wait_behind(engine, own, send_all(engine->to, head, a->bytes, a->len) == 0, hears);
+    return wait_behind(engine, own, send_asked(engine, own->asked, own->number, told) == 0, hears);
 }
 
 int plfs_engine_ask(struct plfs_engine *engine, const struct plfs_asked *asked) {
@@ -490,9 +527,10 @@ static int enter(struct plfs_engine *engine, const char *in, const char *out, co
     engine->from = open_pipe(out, O_RDONLY | O_NONBLOCK);
     int error = PLFS_NOT_STARTED;
     if (engine->own >= 0 && engine->to >= 0 && engine->from >= 0 && fcntl(engine->from, F_SETFL, 0) == 0) {
+        struct iovec line[2] = {{(void *)(uintptr_t)name, strlen(name)}, {NULL, 0}};
         (void)fcntl(engine->to, F_SETPIPE_SZ, PIPE); /* quicker, where the system allows it */
         (void)fcntl(engine->from, F_SETPIPE_SZ, PIPE);
-        if (send_all(engine->door, NULL, name, strlen(name)) == 0) {
+        if (send_all(engine->door, line, NOTHING) == 0) {
             error = plfs_engine_ask(engine, &(struct plfs_asked){.kind = PLFS_CLOSE_READ});
             if (error == PLFS_NOT_OPEN) error = 0;
         }

@@ -13,8 +13,9 @@ enum plfs_kind {
     PLFS_STAT, PLFS_TRUNC, PLFS_RENAME, PLFS_FLATTEN, PLFS_RECOVER, PLFS_LIST
 };
 
-/* PLFS_ITEM: bytes of an item's name that are kept. PLFS_AHEAD: bytes of answers that are read ahead. */
-enum { PLFS_ITEM = 256, PLFS_AHEAD = 4096 };
+/* PLFS_ITEM: bytes of an item's name that are kept. PLFS_AHEAD: bytes of answers that are read ahead. PLFS_HEAD: bytes of a request's head.
+ * PLFS_HEADS: how many heads stand where they stay. */
+enum { PLFS_ITEM = 256, PLFS_AHEAD = 4096, PLFS_HEAD = 48, PLFS_HEADS = 64 };
 
 /* Requests are sent one behind the other, and their answers come in that order. While one thread waits for its answer others send
  * theirs. One of those that wait takes the answers, also those of the others. */
@@ -22,11 +23,13 @@ struct plfs_engine {
     pthread_mutex_t sending; /* a request is sent under it. Who has both locks took this one first */
     int to;
     uint64_t number; /* of the last request */
+    unsigned char heads[PLFS_HEADS][PLFS_HEAD]; /* of the last requests, by their numbers. One that is lent isn't changed before its answer */
 
     pthread_mutex_t lock;             /* all that follows, but what only the thread that takes answers looks at */
     struct plfs_waiting *first, *last; /* requests that were sent and have no answer, the oldest first */
     int is_heard;                     /* a thread takes answers */
     int gone;                         /* why no further request is made: 0, or an error */
+    uint64_t told;                    /* the number of the last request that was told */
     size_t item_len;                  /* the damage that was told last */
     uint64_t place;
     char item[PLFS_ITEM];
@@ -34,6 +37,7 @@ struct plfs_engine {
     int from; /* what follows is for the thread that takes answers */
     int door; /* while this process is not let in: the pipe on which it announced itself, else -1 */
     int own;  /* meanwhile its own reading end of its requests, without which their opening would wait, else -1 */
+    unsigned missed, unheard; /* for how many answers none is looked for before its thread sleeps, and for how many it wasn't */
     size_t begin, end; /* where in ahead those bytes are that were read and not taken */
     unsigned char ahead[PLFS_AHEAD];
 

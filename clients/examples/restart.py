@@ -51,4 +51,6 @@ def main(root, name):
 
 
 if __name__ == "__main__":
+    if len(sys.argv) != 3:
+        sys.exit("usage: restart.py ROOT NAME")
     main(*sys.argv[1:])

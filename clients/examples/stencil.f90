@@ -10,7 +10,10 @@ program stencil
   character(4096) :: root, name
   type(plfs_fs) :: fs
 
-  if (command_argument_count() /= 2) stop 2
+  if (command_argument_count() /= 2) then
+    print '(a)', 'usage: stencil ROOT NAME'
+    stop 2
+  end if
   call get_command_argument(1, root)
   call get_command_argument(2, name)
   call begin(grid)

@@ -320,7 +320,10 @@ class Mount:
             error = _error_of(kind, status, value, view, names)
             if error.why in (Why.ENGINE_MEMORY, Why.STRANGE):
                 self._gone = error.why
-        raise error
+        try:
+            raise error
+        finally:
+            del error  # which has this frame in its traceback: the two would hold the mount until cycles are collected
 
     def _actor(self):
         with self._lock:

@@ -1,5 +1,5 @@
-//! Tests of the check of a tree: one sound container beside its room of marks, and changes that each make one complaint
-//! right.
+//! Tests of the check of a tree and of the shape of its rooms: one sound container beside its room of marks, and changes that each make
+//! one complaint right.
 #![tactic(auto)]
 
 #[cfg(test)]

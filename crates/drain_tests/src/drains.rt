@@ -1,7 +1,9 @@
 //! Drains that are run.
-use crate::stores::{
-    act, empty_store, entry_bytes, name, put_bytes, put_file, reply_to, source_store,
-};
+ghost use Rattle.std.specs.Prelude.{OnOk};
+ghost use Rattle.drain_copy.specs.Machine.{drain_standing};
+ghost use Rattle.drain_copy.specs.Standing.{HasEnded, IsReady};
+
+use crate::stores::{act, empty_store, make_container, name, put, put_entries, reply_to};
 use drain_copy::{Drain, DrainNext, DrainStuck, Drained};
 use plfs_types::{LogicalName, NoMemory};
 use std::alloc::Global;
@@ -16,7 +18,7 @@ const SECOND: u64 = 4_294_967_298;
 
 const THIRD: u64 = 8_589_934_593;
 
-const FIRST_DRAIN: &str = "read index.1.4294967297 0 40
+const TWICE: &str = "read index.1.4294967297 0 40
 read index.1.4294967298 0 40
 sync here log.1.4294967297
 sync here index.1.4294967297
@@ -45,9 +47,8 @@ write index.1.4294967298 0 40
 sync index.1.4294967298
 create truncs/12.9
 drained 2 2 6
-";
-
-const NOTHING_NEW: &str = "make room .plfs
+again
+make room .plfs
 create mounts/1
 make room f
 create openhosts/1.4294967297
@@ -161,18 +162,17 @@ fn show_outcome(outcome: &Result<Drained, DrainStuck>, shown: &mut Line) {
     }
 }
 
-/// Drains the source's `f` to the target, and shows what is asked and what comes of it.
+/// Makes what the drain asks for until it has ended, and shows it.
 #[tactic(auto, using(drain_copy::proofs::DriveLemmas::given_call, drain_copy::proofs::DriveLemmas::given_step, drain_copy::proofs::DriveLemmas::given_end, drain_copy::proofs::DriveLemmas::ready_after, drain_copy::proofs::DriveLemmas::ready_told))]
-fn drain(
-    alloc: Global,
+fn drive(
+    drain: &mut Drain,
     source: &mut MemoryStore,
     target: &mut MemoryStore,
     shown: &mut Line,
-) -> Result<(), NoMemory> {
-    let Some(f) = LogicalName::read(b"f") else {
-        return Ok(());
-    };
-    let mut drain = Drain::new(alloc, f);
+) -> Result<(), NoMemory>
+    requires { IsReady (drain_standing drain.old) }
+    ensures { OnOk result (HasEnded (drain_standing drain.new)) }
+{
     loop {
         match drain.next()? {
             DrainNext::Source(call) => {
@@ -186,58 +186,44 @@ fn drain(
                 drop(step);
                 drain.take_target(answer)?;
             }
-            DrainNext::End => break,
+            DrainNext::End => return Ok(()),
         }
     }
-    let outcome = drain.out();
-    show_outcome(&outcome, shown);
-    Ok(())
 }
 
-/// A writer of the first host, with its files.
-fn enter(store: &mut MemoryStore, index: &str, log: &str) -> Result<(), NoMemory> {
-    put_file(store, "hostdir.1", index)?;
-    put_file(store, "hostdir.1", log)
-}
-
-fn entry(
-    alloc: Global,
-    store: &mut MemoryStore,
-    index: &str,
-    place: u64,
-    numbers: [u64; 5],
-) -> Result<(), NoMemory> {
-    let bytes = entry_bytes(alloc, numbers)?;
-    put_bytes(store, "hostdir.1", index, place, bytes.as_slice())
+/// Drains the source's `f` to the target, and shows what is asked and what comes of it.
+fn drain(alloc: Global, source: &mut MemoryStore, target: &mut MemoryStore, shown: &mut Line) {
+    let Some(f) = LogicalName::read(b"f") else {
+        return;
+    };
+    let mut drain = Drain::new(alloc, f);
+    match drive(&mut drain, source, target, shown) {
+        Ok(()) => {
+            let outcome = drain.out();
+            show_outcome(&outcome, shown);
+            drop(outcome);
+        }
+        Err(NoMemory) => {
+            drop(drain);
+            shown.push("no memory\n");
+        }
+    }
 }
 
 /// Two writers: `AAAA` at 0, and behind that `BB` at 1.
-fn two_writers(alloc: Global) -> Result<MemoryStore, NoMemory> {
-    let mut source = source_store(alloc)?;
-    enter(&mut source, "index.1.4294967297", "log.1.4294967297")?;
-    put_bytes(&mut source, "hostdir.1", "log.1.4294967297", 0, b"AAAA")?;
-    entry(
-        alloc,
-        &mut source,
-        "index.1.4294967297",
-        0,
-        [0, 4, 0, 10, FIRST],
-    )?;
-    enter(&mut source, "index.1.4294967298", "log.1.4294967298")?;
-    put_bytes(&mut source, "hostdir.1", "log.1.4294967298", 0, b"BB")?;
-    entry(
-        alloc,
-        &mut source,
-        "index.1.4294967298",
-        0,
-        [1, 2, 0, 11, SECOND],
-    )?;
-    put_file(&mut source, "truncs", "12.9")?;
-    Ok(source)
+fn put_two_writers(alloc: Global, source: &mut MemoryStore) {
+    make_container(source);
+    put(source, "hostdir.1", "log.1.4294967297", 0, b"AAAA");
+    let first = [0, 4, 0, 10, FIRST];
+    put_entries(alloc, source, "index.1.4294967297", 0, &first);
+    put(source, "hostdir.1", "log.1.4294967298", 0, b"BB");
+    let second = [1, 2, 0, 11, SECOND];
+    put_entries(alloc, source, "index.1.4294967298", 0, &second);
+    put(source, "truncs", "12.9", 0, b"");
 }
 
 /// The writer of this entry is settled in the target, whose container has the number 1.
-fn settle(target: &mut MemoryStore, entry: &str, meta: &str) -> Result<(), NoMemory> {
+fn settle(target: &mut MemoryStore, entry: &str, meta: &str) {
     act(
         target,
         &Step::Remove {
@@ -245,7 +231,7 @@ fn settle(target: &mut MemoryStore, entry: &str, meta: &str) -> Result<(), NoMem
             folder: name("openhosts"),
             file: name(entry),
         },
-    )?;
+    );
     act(
         target,
         &Step::Create {
@@ -253,52 +239,59 @@ fn settle(target: &mut MemoryStore, entry: &str, meta: &str) -> Result<(), NoMem
             folder: name("metadata"),
             file: name(meta),
         },
-    )
+    );
+}
+
+/// Drains two writers, and once more.
+fn drain_twice(
+    alloc: Global,
+    source: &mut MemoryStore,
+    target: &mut MemoryStore,
+    shown: &mut Line,
+) {
+    put_two_writers(alloc, source);
+    drain(alloc, source, target, shown);
+    shown.push("again\n");
+    drain(alloc, source, target, shown);
+}
+
+/// Drains two writers, which are settled then, and a third one; and once more where the first one has written again.
+fn drain_settled(
+    alloc: Global,
+    source: &mut MemoryStore,
+    target: &mut MemoryStore,
+    shown: &mut Line,
+) {
+    put_two_writers(alloc, source);
+    drain(alloc, source, target, &mut Line::new(alloc));
+    settle(target, "1.4294967297", "4.4.10.1.4294967297");
+    settle(target, "1.4294967298", "3.2.11.1.4294967298");
+    put(source, "hostdir.1", "log.1.8589934593", 0, b"C");
+    let third = [5, 1, 0, 12, THIRD];
+    put_entries(alloc, source, "index.1.8589934593", 0, &third);
+    drain(alloc, source, target, shown);
+    put(source, "hostdir.1", "log.1.4294967297", 4, b"D");
+    let more = [9, 1, 4, 20, FIRST];
+    put_entries(alloc, source, "index.1.4294967297", 40, &more);
+    drain(alloc, source, target, shown);
 }
 
 #[test]
 fn a_second_drain_copies_only_what_came(rt: HostRuntime) -> Result<(), Fail> {
-    let alloc = rt.alloc();
-    let mut shown = Line::new(alloc);
-    let mut source = two_writers(alloc)?;
-    let mut target = empty_store(alloc)?;
-    drain(alloc, &mut source, &mut target, &mut shown)?;
-    assert_eq!(rt; shown.as_str(), FIRST_DRAIN);
-    let mut again = Line::new(alloc);
-    drain(alloc, &mut source, &mut target, &mut again)?;
-    assert_eq!(rt; again.as_str(), NOTHING_NEW);
+    let mut source = empty_store(rt.alloc())?;
+    let mut target = empty_store(rt.alloc())?;
+    let mut shown = Line::new(rt.alloc());
+    drain_twice(rt.alloc(), &mut source, &mut target, &mut shown);
+    assert!(rt; shown.as_str() == TWICE);
     Ok(())
 }
 
 #[test]
 fn a_settled_writer_is_passed_by_or_taken(rt: HostRuntime) -> Result<(), Fail> {
-    let alloc = rt.alloc();
-    let mut shown = Line::new(alloc);
-    let mut source = two_writers(alloc)?;
-    let mut target = empty_store(alloc)?;
-    drain(alloc, &mut source, &mut target, &mut shown)?;
-    let mut shown = Line::new(alloc);
-    settle(&mut target, "1.4294967297", "4.4.10.1.4294967297")?;
-    settle(&mut target, "1.4294967298", "3.2.11.1.4294967298")?;
-    enter(&mut source, "index.1.8589934593", "log.1.8589934593")?;
-    put_bytes(&mut source, "hostdir.1", "log.1.8589934593", 0, b"C")?;
-    entry(
-        alloc,
-        &mut source,
-        "index.1.8589934593",
-        0,
-        [5, 1, 0, 12, THIRD],
-    )?;
-    drain(alloc, &mut source, &mut target, &mut shown)?;
-    put_bytes(&mut source, "hostdir.1", "log.1.4294967297", 4, b"D")?;
-    entry(
-        alloc,
-        &mut source,
-        "index.1.4294967297",
-        40,
-        [9, 1, 4, 20, FIRST],
-    )?;
-    drain(alloc, &mut source, &mut target, &mut shown)?;
-    assert_eq!(rt; shown.as_str(), SETTLED);
+    let mut source = empty_store(rt.alloc())?;
+    let mut target = empty_store(rt.alloc())?;
+    let mut shown = Line::new(rt.alloc());
+    drain_settled(rt.alloc(), &mut source, &mut target, &mut shown);
+    assert!(rt; shown.as_str() == SETTLED);
     Ok(())
 }

@@ -7,5 +7,3 @@ mod drains;
 mod reading;
 #[cfg(test)]
 mod stores;
-#[cfg(test)]
-mod world;

@@ -1,5 +1,5 @@
 //! Both machines, each once.
-use crate::world::{FIRST, container, reply_to};
+use crate::stores::{empty_store, make_container, put, put_entries, reply_to};
 use drain_read::{Contained, ContainerRead, ContainerTurn, Held, HeldRead, HeldTurn, Known};
 use mount_model::Stuck;
 use plfs_types::{Cover, CoverList, NoMemory};
@@ -7,6 +7,24 @@ use std::alloc::Global;
 use std::test::Fail;
 use store_memory::MemoryStore;
 use test_lines::Line;
+
+const FIRST: u64 = 4_294_967_297;
+
+const SECOND: u64 = 4_294_967_298;
+
+const CONTAINED: &str = "read index.1.4294967297 40 40
+read index.1.4294967298 0 40
+4294967297 2 5 1
+4294967298 1 2 1
+trunc 12 9
+";
+
+const HELD: &str = "read index.1.4294967297 0 80
+read index.1.4294967298 0 40
+4294967297 2 5 6
+4294967298 1 2 2
+settled 4294967297
+";
 
 // What is read of the container, in no more than a thousand calls.
 fn contained(
@@ -96,34 +114,67 @@ fn known(alloc: Global) -> Result<Known, NoMemory> {
     })
 }
 
+// A container of two writers, of which the first has left, and of one truncate. Behind the second one's entry stand seven bytes of another.
+fn put_container(alloc: Global, store: &mut MemoryStore) {
+    make_container(store);
+    let first = [0, 4, 0, 10, FIRST, 4, 1, 4, 12, FIRST];
+    put_entries(alloc, store, "index.1.4294967297", 0, &first);
+    put(store, "hostdir.1", "log.1.4294967297", 0, b"AAAADx");
+    let second = [1, 2, 0, 11, SECOND];
+    put_entries(alloc, store, "index.1.4294967298", 0, &second);
+    put(
+        store,
+        "hostdir.1",
+        "index.1.4294967298",
+        40,
+        b"\x05\0\0\0\0\0\0",
+    );
+    put(store, "hostdir.1", "log.1.4294967298", 0, b"BB");
+    put(store, "metadata", "5.5.12.1.4294967297", 0, b"");
+    put(store, "truncs", "12.9", 0, b"");
+}
+
+// Reads the container, and shows what is read of it.
+fn read_container(alloc: Global, store: &mut MemoryStore, shown: &mut Line) {
+    put_container(alloc, store);
+    let Ok(known) = known(alloc) else {
+        return;
+    };
+    match contained(alloc, store, known, shown) {
+        Ok(Ok(read)) => {
+            show_contained(&read, shown);
+            drop(read);
+        }
+        _ => shown.push("stuck\n"),
+    }
+}
+
+// Reads what the target has, and shows it.
+fn read_target(alloc: Global, store: &mut MemoryStore, shown: &mut Line) {
+    put_container(alloc, store);
+    match held(alloc, store, shown) {
+        Ok(Ok(held)) => {
+            show_held(&held, shown);
+            drop(held);
+        }
+        _ => shown.push("stuck\n"),
+    }
+}
+
 #[test]
 fn a_container_is_read_from_behind_what_is_known(rt: HostRuntime) -> Result<(), Fail> {
-    let alloc = rt.alloc();
-    let mut shown = Line::new(alloc);
-    let mut store = container(alloc)?;
-    match contained(alloc, &mut store, known(alloc)?, &mut shown)? {
-        Ok(read) => show_contained(&read, &mut shown),
-        Err(_) => shown.push("stuck\n"),
-    }
-    assert_eq!(rt;
-        shown.as_str(),
-        "read index.1.4294967297 40 40\nread index.1.4294967298 0 40\n4294967297 2 5 1\n4294967298 1 2 1\ntrunc 12 9\n"
-    );
+    let mut store = empty_store(rt.alloc())?;
+    let mut shown = Line::new(rt.alloc());
+    read_container(rt.alloc(), &mut store, &mut shown);
+    assert!(rt; shown.as_str() == CONTAINED);
     Ok(())
 }
 
 #[test]
 fn a_target_tells_what_it_has(rt: HostRuntime) -> Result<(), Fail> {
-    let alloc = rt.alloc();
-    let mut shown = Line::new(alloc);
-    let mut store = container(alloc)?;
-    match held(alloc, &mut store, &mut shown)? {
-        Ok(held) => show_held(&held, &mut shown),
-        Err(_) => shown.push("stuck\n"),
-    }
-    assert_eq!(rt;
-        shown.as_str(),
-        "read index.1.4294967297 0 80\nread index.1.4294967298 0 40\n4294967297 2 5 6\n4294967298 1 2 2\nsettled 4294967297\n"
-    );
+    let mut store = empty_store(rt.alloc())?;
+    let mut shown = Line::new(rt.alloc());
+    read_target(rt.alloc(), &mut store, &mut shown);
+    assert!(rt; shown.as_str() == HELD);
     Ok(())
 }

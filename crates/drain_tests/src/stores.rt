@@ -11,26 +11,18 @@ pub(crate) fn name(text: &str) -> Name {
 }
 
 /// Makes a step of which no answer is looked at.
-pub(crate) fn act(store: &mut MemoryStore, step: &Step<'_>) -> Result<(), NoMemory> {
-    match store.act(step) {
-        Ok(answer) => {
-            drop(answer);
-            Ok(())
-        }
-        Err(Trouble::Fault) => Ok(()),
-        Err(Trouble::NoMemory) => Err(NoMemory),
-    }
+pub(crate) fn act(store: &mut MemoryStore, step: &Step<'_>) {
+    drop(store.act(step));
 }
 
 pub(crate) fn empty_store(alloc: Global) -> Result<MemoryStore, NoMemory> {
     MemoryStore::new(alloc, FailList::new(alloc))
 }
 
-/// A store with an empty container `f`.
-pub(crate) fn source_store(alloc: Global) -> Result<MemoryStore, NoMemory> {
-    let mut store = empty_store(alloc)?;
+/// Makes the container `f` in a store without rooms.
+pub(crate) fn make_container(store: &mut MemoryStore) {
     act(
-        &mut store,
+        store,
         &Step::MakeRoom {
             name: name("f"),
             folders: &[
@@ -41,51 +33,47 @@ pub(crate) fn source_store(alloc: Global) -> Result<MemoryStore, NoMemory> {
             ],
             files: &[name("access")],
         },
-    )?;
-    Ok(store)
+    );
 }
 
-/// Makes a file in the container, with its folder.
-pub(crate) fn put_file(store: &mut MemoryStore, folder: &str, file: &str) -> Result<(), NoMemory> {
+/// Writes bytes into a file of the container, which is made where it is missing, as is its folder.
+pub(crate) fn put(store: &mut MemoryStore, folder: &str, file: &str, at: u64, bytes: &[u8]) {
     let folder = name(folder);
-    act(store, &Step::MakeFolder { room: 0, folder })?;
+    let file = name(file);
+    act(store, &Step::MakeFolder { room: 0, folder });
     act(
         store,
         &Step::Create {
             room: 0,
             folder,
-            file: name(file),
+            file,
         },
-    )
-}
-
-/// Writes bytes into a file of the container.
-pub(crate) fn put_bytes(
-    store: &mut MemoryStore,
-    folder: &str,
-    file: &str,
-    at: u64,
-    bytes: &[u8],
-) -> Result<(), NoMemory> {
+    );
     act(
         store,
         &Step::WriteAt {
             room: 0,
-            folder: name(folder),
-            file: name(file),
+            folder,
+            file,
             at,
             bytes,
         },
-    )
+    );
 }
 
-/// An entry as bytes: where in the file, how many bytes, where in the log, the stamp and the writer.
-pub(crate) fn entry_bytes(alloc: Global, numbers: [u64; 5]) -> Result<Vec<u8>, NoMemory> {
+/// Writes entries into an index dropping. Each is five numbers: where in the file, how many bytes, where in the log, the stamp and the writer.
+pub(crate) fn put_entries(
+    alloc: Global,
+    store: &mut MemoryStore,
+    index: &str,
+    at: u64,
+    numbers: &[u64],
+) {
     let mut bytes = Vec::new(alloc);
     for number in numbers {
-        bytes.extend_from_slice(&number.to_le_bytes())?;
+        let _ = bytes.extend_from_slice(&number.to_le_bytes());
     }
-    Ok(bytes)
+    put(store, "hostdir.1", index, at, bytes.as_slice());
 }
 
 fn looked(store: &mut MemoryStore, room: u64, look: &Look) -> Result<Answer, Trouble> {

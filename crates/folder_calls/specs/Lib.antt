@@ -1,4 +1,5 @@
 pub mod Acted
+pub mod Ahead
 pub mod Doubts
 pub mod Calls
 pub mod Syncs

@@ -1,5 +1,6 @@
 //! Bytes of a file that a thread reads before they are asked for.
-ghost use Rattle.std.specs.Prelude.{◌≡◌, length, None, IfSome};
+ghost use Rattle.std.specs.Prelude.{◌≡◌, ◌≤◌, ◌<◌, ◌+◌, ◌-◌, ◌^◌, ◌↔◌, length, min, None, IfSome, IfNone, IsTrue};
+ghost use Rattle.folder_calls.specs.Ahead.{HoldsNone, WasRead};
 
 use plfs_types::NoMemory;
 use std::alloc::Global;
@@ -23,7 +24,9 @@ struct Identity {
 }
 
 impl Identity {
-    fn is(&self, other: Identity) -> bool {
+    fn is(&self, other: Identity) -> bool
+        ensures { IsTrue result ↔ (self.now ≡ other) }
+    {
         self.device == other.device && self.number == other.number
     }
 }
@@ -209,19 +212,26 @@ struct Stretch {
 }
 
 impl Stretch {
-    fn is(&self, other: Stretch) -> bool {
+    fn is(&self, other: Stretch) -> bool
+        ensures { IsTrue result ↔ (self.now ≡ other) }
+    {
         self.file.is(other.file) && self.at == other.at && self.len == other.len
     }
 
-    // As many bytes behind it, of `left` that are there. None where there are none.
-    fn behind(&self, left: u64) -> Option<Stretch> {
-        if left == 0 {
+    // As many bytes behind it, of `left` that are there. None where that would be no long read, which is never asked for here.
+    fn behind(&self, left: u64) -> Option<Stretch>
+        ensures some { IfSome result (λ stretch. (stretch.file ≡ self.now.file) × (stretch.at ≡ min (self.now.at + self.now.len) (2 ^ 64 - 1)) × (stretch.len ≡ min self.now.len left)) }
+        ensures long { IfSome result (λ stretch. LONG ≤ stretch.len) }
+        ensures none { IfNone result (min self.now.len left < LONG) }
+    {
+        let behind = self.len.min(left);
+        if behind < LONG {
             return None;
         }
         Some(Stretch {
             file: self.file,
             at: self.at.saturating_add(self.len),
-            len: self.len.min(left),
+            len: behind,
         })
     }
 }
@@ -241,7 +251,9 @@ pub(crate) struct LongReads {
 }
 
 impl LongReads {
-    pub(crate) fn new(alloc: Global, shared: Arc<ReadAhead>) -> LongReads {
+    pub(crate) fn new(alloc: Global, shared: Arc<ReadAhead>) -> LongReads
+        ensures { HoldsNone result }
+    {
         LongReads {
             alloc,
             shared,
@@ -252,7 +264,9 @@ impl LongReads {
     }
 
     /// A file is changed: what was read ahead isn't given any more.
-    pub(crate) fn forget(&mut self) {
+    pub(crate) fn forget(&mut self)
+        ensures { HoldsNone self.new }
+    {
         self.ordered = None;
         self.own = None;
     }
@@ -260,6 +274,7 @@ impl LongReads {
     /// The `len` bytes from `at` on, where they were read already. The file has `left` others behind them.
     pub(crate) fn next(&mut self, file: &File, at: u64, len: u64, left: u64) -> Option<Vec<u8>>
         ensures long { IfSome result (λ bytes. length bytes.items ≡ len) }
+        ensures asked { IfSome result (λ bytes. (file : Identity) × WasRead (record { file = file; at = at; len = len }) bytes self.old.own self.old.ordered) }
     {
         if len < LONG {
             return None;
@@ -282,7 +297,9 @@ impl LongReads {
     }
 
     // What is asked for, where it was read. What comes next is ordered.
-    fn given(&mut self, file: &File, asked: Stretch, left: u64) -> Option<Vec<u8>> {
+    fn given(&mut self, file: &File, asked: Stretch, left: u64) -> Option<Vec<u8>>
+        ensures asked { IfSome result (λ bytes. WasRead asked bytes self.old.own self.old.ordered) }
+    {
         if let Some((stretch, bytes)) = self.own.take() {
             if stretch.is(asked) {
                 return Some(bytes);

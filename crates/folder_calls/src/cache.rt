@@ -1,7 +1,8 @@
 //! The files that are open: those that were used last, each with its length.
-ghost use Rattle.std.specs.Prelude.{◌≡◌, ◌⊎◌, [], length, max, true, None, Some, is_some, IfSome, IfOk, IfErr, if◌then◌else◌};
+ghost use Rattle.std.specs.Prelude.{◌≡◌, ◌⊎◌, [], length, max, nat_eq, true, None, Some, is_some, IfSome, IfOk, IfErr, if◌then◌else◌};
 ghost use Rattle.std.specs.List.{IsDistinct};
 ghost use Rattle.std.specs.Map.{keys_of, remove_entry};
+ghost use Rattle.std.specs.Cmp.Lexicographic.{pointwise};
 ghost use Rattle.lru.specs.LruCache.{lru_cache, put_entries};
 ghost use Rattle.store_api.specs.Step.{step_of};
 ghost use Rattle.folder_calls.specs.Acted.{ActsHeld};
@@ -29,6 +30,24 @@ pub struct FileKey {
     pub file: Name,
 }
 
+// Whether both names have the same bytes. They are short, so that a comparison of slices by many bytes at a time takes
+// longer.
+fn is_same_name(a: &Name, b: &Name) -> bool
+    ensures { result ≡ pointwise nat_eq a.now b.now }
+{
+    let a = a.bytes();
+    let b = b.bytes();
+    if a.len() != b.len() {
+        return false;
+    }
+    for j in 0..a.len() {
+        if a[j] != b[j] {
+            return false;
+        }
+    }
+    true
+}
+
 impl PartialEq for FileKey {
     ghost use Rattle.std.proofs.Common.{rules};
     ghost use Rattle.std.specs.Cmp.Rules.{comparing};
@@ -39,7 +58,9 @@ impl PartialEq for FileKey {
     ghost laws = { Prim.search (comparing, rules) };
 
     fn eq(&self, other: &FileKey) -> bool {
-        self.room == other.room && self.folder == other.folder && self.file == other.file
+        self.room == other.room
+            && is_same_name(&self.folder, &other.folder)
+            && is_same_name(&self.file, &other.file)
     }
 }
 

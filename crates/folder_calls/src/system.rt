@@ -1,6 +1,8 @@
 //! The system itself.
-ghost use Rattle.std.specs.Prelude.{◌≡◌, None, IfErr, IfOk};
-ghost use Rattle.std.specs.Fs.{file_type, metadata_len};
+ghost use Rattle.std.specs.Prelude.{◌≡◌, ◌∷◌, [], None, IfErr, IfOk, IfSome, IsSomeAnd, IsTrue};
+ghost use Rattle.std.specs.Fs.{IsFile, file_type, metadata_len};
+ghost use Rattle.folder_calls.specs.Ahead.{HoldsNone};
+ghost use Rattle.folder_calls.specs.Calls.{Makes, removed_file, resized_file, wrote_bytes};
 ghost use Rattle.folder_calls.specs.Kinds.{IsKindOf};
 ghost use Rattle.folder_calls.specs.Noted.{noted, Tells, TellsFailedList, TellsOpening};
 ghost use Rattle.folder_calls.specs.Syncs.{counting};
@@ -51,7 +53,9 @@ fn kind_of(found: &Metadata) -> Kind
 }
 
 // Whether both are one plain file.
-fn are_one_file(a: &Metadata, b: &Metadata) -> bool {
+fn are_one_file(a: &Metadata, b: &Metadata) -> bool
+    ensures plain { IsTrue result → IsFile (file_type a.now) × IsFile (file_type b.now) }
+{
     a.is_file() && b.is_file() && a.dev() == b.dev() && a.ino() == b.ino()
 }
 
@@ -118,6 +122,7 @@ impl<R> SystemCalls<R> {
     /// From now on a thread may read ahead of long reads that follow each other.
     pub fn read_ahead_by(&mut self, alloc: Global, shared: Arc<ReadAhead>)
         ensures same { (self.new.last ≡ self.old.last) × (self.new.unsynced ≡ self.old.unsynced) }
+        ensures begun { IsSomeAnd self.new.ahead HoldsNone }
     {
         self.ahead = Some(LongReads::new(alloc, shared));
     }
@@ -125,6 +130,7 @@ impl<R> SystemCalls<R> {
     // A file is changed: what was read ahead is not what stands there.
     fn forget_ahead(&mut self)
         ensures same { (self.new.last ≡ self.old.last) × (self.new.unsynced ≡ self.old.unsynced) }
+        ensures forgotten { IfSome self.new.ahead HoldsNone }
     {
         if let Some(ahead) = &mut self.ahead {
             ahead.forget();
@@ -313,16 +319,30 @@ impl<R: System> Calls for SystemCalls<R> {
         }
     }
 
-    fn write_all_at(&mut self, file: &File, bytes: &[u8], at: u64) -> Result<(), Failure> {
-        self.forget_ahead();
+    fn write_all_at(&mut self, file: &File, bytes: &[u8], at: u64) -> Result<(), Failure>
+        ensures failed { IfErr result (λ failure. failure ≡ Failure.Failed) }
+        ensures syncs { self.new.unsynced ≡ self.old.unsynced }
+        ensures call { Makes (wrote_bytes file.now at bytes.now result ∷ []) None None }
+        ensures tells { Tells Asked.Write self.old.last self.new.last result }
+        ensures forgotten { IfSome self.new.ahead HoldsNone }
+    {
         let end = file.write_all_at(bytes, at);
-        self.ended(Asked::Write, end)
+        let end = self.ended(Asked::Write, end);
+        self.forget_ahead();
+        end
     }
 
-    fn set_length(&mut self, file: &File, len: u64) -> Result<(), Failure> {
-        self.forget_ahead();
+    fn set_length(&mut self, file: &File, len: u64) -> Result<(), Failure>
+        ensures failed { IfErr result (λ failure. failure ≡ Failure.Failed) }
+        ensures syncs { self.new.unsynced ≡ self.old.unsynced }
+        ensures call { Makes (resized_file file.now len result ∷ []) None None }
+        ensures tells { Tells Asked.Cut self.old.last self.new.last result }
+        ensures forgotten { IfSome self.new.ahead HoldsNone }
+    {
         let end = file.set_len(len);
-        self.ended(Asked::Cut, end)
+        let end = self.ended(Asked::Cut, end);
+        self.forget_ahead();
+        end
     }
 
     fn sync(&mut self, file: &File) -> Result<(), Failure> {
@@ -343,10 +363,16 @@ impl<R: System> Calls for SystemCalls<R> {
         self.synced(synced)
     }
 
-    fn remove_file(&mut self, path: &str) -> Result<bool, Failure> {
-        self.forget_ahead();
+    fn remove_file(&mut self, path: &str) -> Result<bool, Failure>
+        ensures failed { IfErr result (λ failure. failure ≡ Failure.Failed) }
+        ensures syncs { self.new.unsynced ≡ self.old.unsynced }
+        ensures tells { Tells Asked.RemoveFile self.old.last self.new.last result }
+        ensures forgotten { IfSome self.new.ahead HoldsNone }
+    {
         let end = fs::remove_file(&self.rt, path);
-        self.unless(Asked::RemoveFile, ErrorKind::NotFound, end)
+        let end = self.unless(Asked::RemoveFile, ErrorKind::NotFound, end);
+        self.forget_ahead();
+        end
     }
 
     fn remove_folder(&mut self, path: &str) -> Result<Removal, Failure> {

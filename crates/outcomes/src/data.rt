@@ -31,14 +31,14 @@ fn ramp_byte(first: u8, j: usize) -> u8
 }
 
 /// The bytes of a ramp, one by one, up to where it begins again.
-fn period(alloc: Global, first: u8) -> Result<Vec<u8>, AllocError>
-    ensures { IfOk result (λ bytes. bytes.items ≡ map (byte_of_ramp first) (range_with_len 0 256)) }
+fn period(first: u8) -> [u8; PERIOD]
+    ensures { result ≡ map (byte_of_ramp first) (range_with_len 0 256) }
 {
-    let mut bytes = Vec::with_capacity(alloc, PERIOD)?;
+    let mut bytes = [0; PERIOD];
     for j in 0..PERIOD {
-        bytes.push(ramp_byte(first, j))?;
+        bytes[j] = ramp_byte(first, j);
     }
-    Ok(bytes)
+    bytes
 }
 
 /// The bytes of a ramp, copied from its front, since one by one takes many times as long. The front has whole periods.
@@ -63,12 +63,12 @@ const FRONT: usize = 4096;
 fn ramp(alloc: Global, len: usize, first: u8) -> Result<Bytes, NoMemory>
     ensures { IfOk result (λ bytes. bytes ≡ map (byte_of_ramp first) (range_with_len 0 len)) }
 {
-    let period = period(alloc, first)?;
+    let period = period(first);
     if len <= FRONT {
-        let bytes = ramp_by(alloc, len, first, period.as_slice())?;
+        let bytes = ramp_by(alloc, len, first, &period)?;
         return Ok(Bytes::from_vec(bytes));
     }
-    let front = ramp_by(alloc, FRONT, first, period.as_slice())?;
+    let front = ramp_by(alloc, FRONT, first, &period)?;
     let bytes = ramp_by(alloc, len, first, front.as_slice())?;
     Ok(Bytes::from_vec(bytes))
 }
@@ -176,11 +176,8 @@ fn begins_with_ramp(found: &[u8], len: u64, first: u8) -> bool
     ensures { result ≡ true → first_of 0 (map (byte_of_ramp first) (range_with_len 0 len)) found.now ≡ None }
 {
     if repeats(found, len, PERIOD) {
-        let beginning = Data::Ramp {
-            len: len.min(256),
-            first,
-        };
-        return difference_by_bytes(&beginning, found).is_none();
+        let beginning = period(first);
+        return begins_with(found, &beginning[..len.min(256) as usize]);
     }
     false
 }

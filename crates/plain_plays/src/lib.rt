@@ -1,6 +1,6 @@
 //! A play's lines are what the plain machine says of its script, where nothing fails.
 //!
-//! It owns the laws that each statement is a step of the plain machine, that an open writer is served, and when not, and the laws that join the
+//! It owns the laws that each statement is a step of the plain machine, and that an open writer is served, or why not. Further laws join the
 //! steps to a whole play, and to a packing of small files. There is no code in it.
 #![tactic(auto)]
 

@@ -8,7 +8,7 @@ use crate::summary::summary;
 use plfs_types::{Bytes, NoMemory};
 use program_ends::status_of;
 use report_text::print;
-use script_lang::{Line, Lines, Outcome};
+use script_lang::{CompactLine, Lines, Outcome};
 use std::alloc::Global;
 
 /// What is shown of the lines of a script.
@@ -29,10 +29,13 @@ pub(crate) struct Printout {
     pub(crate) status: u8,
 }
 
-fn is_reader(line: &Line) -> bool
+fn is_reader(line: &CompactLine) -> bool
     ensures { result ≡ reads line.now.outcome }
 {
-    matches!(line.outcome, Outcome::Reader { .. })
+    let seen = line.seen();
+    let found = matches!(seen.outcome(), Outcome::Reader { .. });
+    drop(seen);
+    found
 }
 
 // Of an opening and what follows it: what follows where there is a reader, and else why there is none.
@@ -50,11 +53,11 @@ fn behind_opening(lines: Lines) -> Lines
     Lines::from_vec(lines)
 }
 
-fn is_line_zero(lines: &[Line]) -> bool
+fn is_line_zero(lines: &[CompactLine]) -> bool
     ensures { result ≡ is_zero lines.now }
 {
     match lines {
-        [line] => line.number == 0,
+        [line] => line.number() == 0,
         _ => false,
     }
 }

@@ -5,7 +5,7 @@ ghost use Rattle.plfs_program.specs.Summary.{is_counted as counts, count as coun
 
 use itoa::Buffer;
 use plfs_types::NoMemory;
-use script_lang::{Line, Outcome};
+use script_lang::{CompactLine, Outcome};
 use std::alloc::Global;
 
 /// What a row of the summary counts.
@@ -30,30 +30,48 @@ fn is_counted(counted: Counted, outcome: &Outcome) -> bool
     }
 }
 
+fn counts_line(counted: Counted, line: &CompactLine) -> bool
+    ensures { result ≡ counts counted line.now.outcome }
+{
+    let seen = line.seen();
+    let found = is_counted(counted, seen.outcome());
+    drop(seen);
+    found
+}
+
 // How many of the lines have such an outcome.
-fn count(counted: Counted, lines: &[Line]) -> u64
+fn count(counted: Counted, lines: &[CompactLine]) -> u64
     ensures { result ≡ count_of counted lines.now }
 {
     let mut count = 0;
     for line in lines {
-        if is_counted(counted, &line.outcome) {
+        if counts_line(counted, line) {
             count += 1;
         }
     }
     count
 }
 
-fn told_size(line: &Line) -> Option<u64>
-    ensures { result ≡ size_told line.now.outcome }
+fn size_in(outcome: &Outcome) -> Option<u64>
+    ensures { result ≡ size_told outcome.now }
 {
-    match &line.outcome {
+    match outcome {
         Outcome::Stat { size, .. } => Some(*size),
         _ => None,
     }
 }
 
+fn told_size(line: &CompactLine) -> Option<u64>
+    ensures { result ≡ size_told line.now.outcome }
+{
+    let seen = line.seen();
+    let size = size_in(seen.outcome());
+    drop(seen);
+    size
+}
+
 // The size that the last line tells.
-fn last_size(lines: &[Line]) -> Option<u64>
+fn last_size(lines: &[CompactLine]) -> Option<u64>
     ensures { result ≡ the_last_size lines.now }
 {
     match lines.last() {
@@ -89,7 +107,7 @@ fn push_size(text: &mut Vec<u8>, word: &[u8], size: Option<u64>) -> Result<(), N
 }
 
 /// Seven rows: how many lines there are, how many of each kind, and the size that the last one tells.
-pub(crate) fn summary(alloc: Global, lines: &[Line]) -> Result<Vec<u8>, NoMemory>
+pub(crate) fn summary(alloc: Global, lines: &[CompactLine]) -> Result<Vec<u8>, NoMemory>
     ensures { IfOk result (λ text. text.items ≡ summary_of lines.now) }
 {
     let mut text = Vec::new(alloc);

@@ -1,4 +1,7 @@
 //! How a program over a store ends: what its mounting says, what it prints, with which status, and what it leaves.
+//!
+//! The crate owns the status of lines, the line 0 of a mounting that broke off, and text that is written whole or cut off. The programs of all
+//! commands stand on it.
 #![tactic(auto)]
 
 mod ended;

@@ -7,35 +7,56 @@ ghost use Rattle.program_ends.specs.Output.{IsPrinted, IsCutOff};
 use crate::output::write_out;
 use edge_io::Sink;
 use report_text::print;
-use script_lang::{Line, Lines, Outcome};
+use script_lang::{CompactLine, Line, Lines, Outcome};
 use std::alloc::Global;
 
-fn has_fault(lines: &[Line]) -> bool
+fn is_fault(line: &CompactLine) -> bool
+    ensures { result ≡ is_fault line.now.outcome }
+{
+    let seen = line.seen();
+    let found = matches!(seen.outcome(), Outcome::Fault);
+    drop(seen);
+    found
+}
+
+fn is_damage(line: &CompactLine) -> bool
+    ensures { result ≡ is_damage line.now.outcome }
+{
+    let seen = line.seen();
+    let found = matches!(seen.outcome(), Outcome::Damaged { .. });
+    drop(seen);
+    found
+}
+
+fn is_refusal(line: &CompactLine) -> bool
+    ensures { result ≡ is_refusal line.now.outcome }
+{
+    let seen = line.seen();
+    let found = matches!(seen.outcome(), Outcome::Refused { .. });
+    drop(seen);
+    found
+}
+
+fn has_fault(lines: &[CompactLine]) -> bool
     ensures { result ≡ has_line is_fault lines.now }
 {
-    lines
-        .iter()
-        .any(|line| matches!(line.outcome, Outcome::Fault))
+    lines.iter().any(|line| is_fault(line))
 }
 
-fn has_damage(lines: &[Line]) -> bool
+fn has_damage(lines: &[CompactLine]) -> bool
     ensures { result ≡ has_line is_damage lines.now }
 {
-    lines
-        .iter()
-        .any(|line| matches!(line.outcome, Outcome::Damaged { .. }))
+    lines.iter().any(|line| is_damage(line))
 }
 
-fn has_refusal(lines: &[Line]) -> bool
+fn has_refusal(lines: &[CompactLine]) -> bool
     ensures { result ≡ has_line is_refusal lines.now }
 {
-    lines
-        .iter()
-        .any(|line| matches!(line.outcome, Outcome::Refused { .. }))
+    lines.iter().any(|line| is_refusal(line))
 }
 
 /// The status of a run with these lines.
-pub fn status_of(lines: &[Line]) -> u8
+pub fn status_of(lines: &[CompactLine]) -> u8
     ensures { result ≡ status lines.now }
 {
     if has_damage(lines) {

@@ -10,7 +10,7 @@ use crate::player::Player;
 use edge_io::Clock;
 use mount_core::Mount;
 use plfs_types::NoMemory;
-use script_lang::{Lines, Numbered};
+use script_lang::{CompactStatement, Lines};
 use store_api::Store;
 
 /// The line of the next statement of the player at this place.
@@ -36,7 +36,7 @@ fn pass<S: Store + Drop, C: Clock + Drop>(
 pub(crate) fn finish<S: Store + Drop, C: Clock + Drop>(
     mount: &mut Mount<S, C>,
     players: &mut [Player<'_>],
-    statements: &[Numbered],
+    statements: &[CompactStatement],
     lines: &mut Lines,
 ) -> Result<(), NoMemory>
     requires there { All (λ statement. statement.actor < length players.old) statements.now }
@@ -45,7 +45,7 @@ pub(crate) fn finish<S: Store + Drop, C: Clock + Drop>(
     ensures broken { OnErr result (EndsBreak (whose statements.now) players.old mount.old mount.new) }
 {
     for statement in statements {
-        pass(mount, players, statement.actor as usize, lines)?;
+        pass(mount, players, statement.actor() as usize, lines)?;
     }
     Ok(())
 }

@@ -10,16 +10,16 @@ use crate::turns::take_turns;
 use edge_io::Clock;
 use mount_core::Mount;
 use plfs_types::NoMemory;
-use script_lang::{Lines, Numbered, Phase};
+use script_lang::{CompactStatement, Lines, Phase};
 use store_api::Store;
 
 /// Gives each player its own of these statements.
-fn deal<'a>(players: &mut [Player<'a>], statements: &'a [Numbered]) -> Result<(), NoMemory>
+fn deal<'a>(players: &mut [Player<'a>], statements: &'a [CompactStatement]) -> Result<(), NoMemory>
     requires { All (λ statement. statement.actor < length players.old) statements.now }
     ensures { OnOk result (Dealt statements.entry.now players.old players.new) }
 {
     for statement in statements {
-        let place = statement.actor as usize;
+        let place = statement.actor() as usize;
         let player = &mut players[place];
         player.give(statement)?;
     }

@@ -9,7 +9,7 @@ use actor_core::Actor;
 use edge_io::Clock;
 use mount_core::Mount;
 use plfs_types::NoMemory;
-use script_lang::{ActorDecl, Line, Numbered};
+use script_lang::{ActorDecl, CompactStatement, Line};
 use std::alloc::Global;
 use std::collections::VecDeque;
 use store_api::Store;
@@ -21,7 +21,7 @@ pub(crate) struct Player<'a> {
     number: u64,
     actor: Actor,
     /// Its statements of the phase that are not begun. Each is copied as it begins.
-    queue: VecDeque<&'a Numbered>,
+    queue: VecDeque<&'a CompactStatement>,
     /// The lines of its statements that ended ahead of their place in writing.
     ahead: VecDeque<Line>,
 }
@@ -53,7 +53,7 @@ impl<'a> Player<'a> {
     ghost use Rattle.run_core.specs.Players.{waiting_in};
 
     /// Gives it one statement more of the phase.
-    pub(crate) fn give(&mut self, statement: &'a Numbered) -> Result<(), NoMemory>
+    pub(crate) fn give(&mut self, statement: &'a CompactStatement) -> Result<(), NoMemory>
         ensures { OnOk result (IsDealt (statement.now ∷ []) self.old self.new) }
     {
         self.queue.push_back(statement)?;
@@ -116,8 +116,8 @@ impl<'a> Player<'a> {
         let Some(next) = self.queue.pop_front() else {
             return Ok(false);
         };
-        let statement = next.statement.copy(self.alloc)?;
-        self.actor.begin(next.line, statement)?;
+        let statement = next.copy(self.alloc)?;
+        self.actor.begin(next.line(), statement)?;
         Ok(true)
     }
 

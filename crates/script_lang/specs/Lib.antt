@@ -15,6 +15,8 @@ pub mod Told
 pub mod Generated
 -- Laws of it.
 pub mod Laws
+-- What lists keep.
+pub mod Compact
 -- How scripts are read, step by step.
 pub mod Data
 pub mod Drafts

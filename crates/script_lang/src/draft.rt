@@ -10,7 +10,8 @@ ghost use Rattle.script_lang.specs.Drafts.{empty_draft, draft_with, line_draft, 
 use crate::cast::Cast;
 use crate::flaw::Flaw;
 use crate::meaning::{Meaning, meaning_of};
-use crate::script::{Numbered, Phase, PhaseList, Script, StatementList, TurnList};
+use crate::script::{Numbered, Phase, PhaseList, Script, TurnList};
+use crate::statement_list::StatementList;
 use crate::trouble::Kind;
 use crate::words::split_words;
 use plfs_types::NoMemory;

@@ -5,9 +5,9 @@ ghost use Rattle.script_lang.specs.Ranges.{FitsScript};
 ghost use Rattle.script_lang.specs.Generated.{file_of as name_of, writer as the_writer, block as the_block, Said, said, opens as the_opens, writes as the_writes, closes as the_closes, checks as the_checks, on_lines, generated, in_phases};
 
 use crate::script::{
-    ActorDecl, ActorList, Data, Numbered, Phase, PhaseList, Script, Statement, StatementList,
-    TurnList,
+    ActorDecl, ActorList, Data, Numbered, Phase, PhaseList, Script, Statement, TurnList,
 };
+use crate::statement_list::StatementList;
 use itoa::Buffer;
 use plfs_types::{LogicalName, Name, NoMemory};
 use std::alloc::Global;

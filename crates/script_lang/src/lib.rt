@@ -8,6 +8,7 @@ mod draft;
 mod flaw;
 mod generated;
 mod line;
+mod line_list;
 mod meaning;
 mod names;
 mod numbers;
@@ -15,15 +16,17 @@ mod reading;
 mod script;
 mod spelling;
 mod statement;
+mod statement_list;
 mod trouble;
 mod verb;
 mod words;
 
 pub use generated::generate;
-pub use line::{Line, Lines, MapText, Outcome, Why};
+pub use line::{Line, MapText, Outcome, Why};
+pub use line_list::{CompactLine, LineList, Lines, Seen};
 pub use script::{
-    ActorDecl, ActorList, Data, Numbered, Phase, PhaseList, Script, Statement, StatementList,
-    TurnList, Turned,
+    ActorDecl, ActorList, Data, Numbered, Phase, PhaseList, Script, Statement, TurnList, Turned,
 };
 pub use spelling::{scripts_are_told_apart, statements_are_told_apart};
+pub use statement_list::{CompactStatement, StatementList};
 pub use trouble::{Kind, ScriptTrouble};

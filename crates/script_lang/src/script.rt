@@ -1,6 +1,7 @@
 //! What a script has its actors do. Data stands as it is written, and is not expanded.
 ghost use Rattle.std.specs.Prelude.{◌≡◌, IfOk};
 
+use crate::statement_list::StatementList;
 use plfs_types::{Bytes, LogicalName, Name, NoMemory, Sequence};
 use std::alloc::Global;
 
@@ -128,9 +129,6 @@ pub struct Numbered {
     pub actor: u64,
     pub statement: Statement,
 }
-
-/// A list of statements.
-pub type StatementList = Sequence<Numbered>;
 
 /// So many written turns, 1 to 2^32 - 1, for the actor that is declared at this place, from 0.
 #[derive(Clone, Copy, PartialEq, Eq)]

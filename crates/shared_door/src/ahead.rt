@@ -42,18 +42,28 @@ impl Came {
         }
     }
 
-    /// Whose frame it is; 0 where it is none.
-    pub(crate) fn actor(&self) -> u64 {
+    // Whose frame it is; 0 where it is none.
+    fn actor(&self) -> u64 {
         match &self.arrival {
             Ok(Arrival::Frame { head, .. }) => head.actor,
             _ => 0,
         }
     }
 
-    /// Whether the thread reads behind it: it is a long frame, and of another actor than the frame before. An actor that waits for its
+    // Whether it is a long frame.
+    fn is_long(&self) -> bool {
+        self.len() >= LONG
+    }
+
+    /// Whether the thread reads behind it: it is a long frame, and of another actor than the long frame before. An actor that waits for its
     /// answer sends nothing meanwhile.
     pub(crate) fn leads(&self, before: u64) -> bool {
-        self.len() >= LONG && self.actor() != before
+        self.is_long() && self.actor() != before
+    }
+
+    /// Whose the last long frame is, behind one of this actor and this frame.
+    pub(crate) fn last_long(&self, before: u64) -> u64 {
+        if self.is_long() { self.actor() } else { before }
     }
 }
 
@@ -65,7 +75,7 @@ struct State {
     bytes: usize,
     // Whether the thread is to read.
     is_on: bool,
-    // Whose the frame was that was read last.
+    // Whose the long frame was that was read last.
     last: u64,
     // The engine takes no more.
     is_over: bool,
@@ -108,7 +118,7 @@ impl Ahead {
         })
     }
 
-    /// From now on the thread reads, up to what it doesn't read behind. This actor's frame was read last.
+    /// From now on the thread reads, up to what it doesn't read behind. This actor's long frame was read last.
     pub(crate) fn begin<R: Wait>(&self, rt: &R, last: u64) {
         let mut guard = self.state.lock(rt);
         guard.is_on = true;
@@ -154,7 +164,7 @@ impl Ahead {
         let state = &mut *guard;
         state.bytes = state.bytes.saturating_add(len);
         state.is_on = came.leads(state.last);
-        state.last = came.actor();
+        state.last = came.last_long(state.last);
         if state.read.push_back(came).is_err() {
             state.is_over = true;
         }

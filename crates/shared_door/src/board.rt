@@ -1,5 +1,7 @@
 //! What the threads share: frames that wait for the engine, and answers that wait for their processes.
-ghost use Rattle.std.specs.Prelude.{◌≡◌, ◌<◌, IfSome};
+ghost use Rattle.std.specs.Prelude.{◌≡◌, ◌<◌, ◌≤◌, ◌==◌, ◌&&◌, ◌||◌, length, slice_get, true, Some, None, IfOk, IfSome, IfNone};
+ghost use Rattle.shared_frames.specs.declared.placing.TheConstants.{PLACES};
+ghost use Rattle.shared_door.specs.Places.{NoneIsFree, answer_in, answering, entered, is_free_in, left, silent, with_place};
 
 use frame_format::Head;
 use plfs_types::{Bytes, NoMemory};
@@ -43,44 +45,89 @@ pub struct Board {
     asked: Condvar,
     // By its place: an answer came, or no further one will.
     answered: Vec<Condvar>,
+    ghost each: { length answered.items ≡ PLACES },
 }
 
 impl State {
-    fn take_answer(&mut self, place: u64) -> Option<Bytes> {
+    // Takes the answer that waits at this place.
+    fn take_answer(&mut self, place: u64) -> Option<Bytes>
+        ensures answer { result ≡ answer_in (slice_get self.old.places.items place) }
+        ensures taken { self.new.places.items ≡ with_place silent self.old.places.items place }
+        ensures rest { (self.new.frames ≡ self.old.frames) × (self.new.count ≡ self.old.count) × (self.new.is_closed ≡ self.old.is_closed) × (self.new.is_over ≡ self.old.is_over) }
+    {
         match self.places.get_mut(place as usize) {
             Some(it) => it.answer.take(),
             None => None,
         }
     }
 
-    fn put_answer(&mut self, place: u64, bytes: Bytes) {
+    // Puts an answer at this place, where there is one.
+    fn put_answer(&mut self, place: u64, bytes: Bytes)
+        ensures put { self.new.places.items ≡ with_place (answering bytes) self.old.places.items place }
+        ensures rest { (self.new.frames ≡ self.old.frames) × (self.new.count ≡ self.old.count) × (self.new.is_closed ≡ self.old.is_closed) × (self.new.is_over ≡ self.old.is_over) }
+    {
         if let Some(it) = self.places.get_mut(place as usize) {
             it.answer = Some(bytes);
         }
     }
 
-    // Takes the first place that is free.
-    fn take_place(&mut self) -> Option<u64> {
+    // Whether this place is there and free.
+    fn is_free(&self, place: u64) -> bool
+        ensures { result ≡ is_free_in (slice_get self.now.places.items place) }
+    {
+        match self.places.get(place as usize) {
+            Some(it) => !it.is_taken,
+            None => false,
+        }
+    }
+
+    // The first place that is free.
+    fn free_place(&self) -> Option<u64>
+        ensures there { IfSome result (λ place. place < PLACES) }
+        ensures free { IfSome result (λ place. is_free_in (slice_get self.now.places.items place) ≡ true) }
+        ensures first { IfSome result (NoneIsFree self.now.places.items) }
+        ensures none { IfNone result (NoneIsFree self.now.places.items PLACES) }
+    {
         for place in 0..PLACES {
-            if let Some(it) = self.places.get_mut(place as usize) {
-                if !it.is_taken {
-                    it.is_taken = true;
-                    it.answer = None;
-                    return Some(place);
-                }
+            if self.is_free(place) {
+                return Some(place);
             }
         }
         None
     }
 
-    fn leave_place(&mut self, place: u64) {
+    // Takes the first place that is free.
+    fn take_place(&mut self) -> Option<u64>
+        ensures there { IfSome result (λ place. place < PLACES) }
+        ensures free { IfSome result (λ place. is_free_in (slice_get self.old.places.items place) ≡ true) }
+        ensures first { IfSome result (NoneIsFree self.old.places.items) }
+        ensures taken { IfSome result (λ place. self.new.places.items ≡ with_place entered self.old.places.items place) }
+        ensures none { IfNone result (NoneIsFree self.old.places.items PLACES) }
+        ensures unchanged { IfNone result (self.new ≡ self.old) }
+        ensures rest { (self.new.frames ≡ self.old.frames) × (self.new.count ≡ self.old.count) × (self.new.is_closed ≡ self.old.is_closed) × (self.new.is_over ≡ self.old.is_over) }
+    {
+        let place = self.free_place()?;
+        if let Some(it) = self.places.get_mut(place as usize) {
+            it.is_taken = true;
+            it.answer = None;
+        }
+        Some(place)
+    }
+
+    // Frees this place, where there is one.
+    fn leave_place(&mut self, place: u64)
+        ensures left { self.new.places.items ≡ with_place left self.old.places.items place }
+        ensures rest { (self.new.frames ≡ self.old.frames) × (self.new.count ≡ self.old.count) × (self.new.is_closed ≡ self.old.is_closed) × (self.new.is_over ≡ self.old.is_over) }
+    {
         if let Some(it) = self.places.get_mut(place as usize) {
             it.is_taken = false;
         }
     }
 
     // Whether no frame will come any more.
-    fn is_done(&self) -> bool {
+    fn is_done(&self) -> bool
+        ensures { result ≡ (self.now.is_over || (self.now.is_closed && (self.now.count == 0))) }
+    {
         self.is_over || self.is_closed && self.count == 0
     }
 }
@@ -111,7 +158,9 @@ impl Board {
     }
 
     /// Lets a process in: its place. None where no further one is let in, or no place is free.
-    pub(crate) fn enter<R: Wait>(&self, rt: &R) -> Option<u64> {
+    pub(crate) fn enter<R: Wait>(&self, rt: &R) -> Option<u64>
+        ensures there { IfSome result (λ place. place < PLACES) }
+    {
         let mut guard = self.state.lock(rt);
         let state = &mut *guard;
         if state.is_closed || state.is_over {
@@ -166,7 +215,9 @@ impl Board {
     }
 
     /// Hands a frame in and waits for its answer. None where the engine answers no more, or memory was refused.
-    pub(crate) fn ask<R: Wait>(&self, rt: &R, asked: Asked) -> Option<Bytes> {
+    pub(crate) fn ask<R: Wait>(&self, rt: &R, asked: Asked) -> Option<Bytes>
+        ensures outside { PLACES ≤ asked.place → result ≡ None }
+    {
         let place = asked.place;
         let answered = self.answered.get(place as usize)?;
         if !self.put(rt, asked) {

@@ -1,4 +1,7 @@
 //! The folder by which processes come.
+ghost use Rattle.std.specs.Prelude.{◌≡◌, ◌↔◌, IfOk, IsTrue, string_bytes};
+ghost use Rattle.shared_door.specs.Doors.{IsProcessName, path_in};
+
 use crate::board::Board;
 use crate::process::{Left, serve_process};
 use plfs_types::NoMemory;
@@ -23,7 +26,9 @@ pub struct Door {
 }
 
 // A path below the folder.
-fn path_of(alloc: Global, folder: &str, name: &str, ending: &str) -> Result<String, AllocError> {
+fn path_of(alloc: Global, folder: &str, name: &str, ending: &str) -> Result<String, AllocError>
+    ensures { IfOk result (λ path. string_bytes path ≡ path_in folder.now name.now ending.now) }
+{
     let mut path = String::from_str(alloc, folder)?;
     path.push_str("/")?;
     path.push_str(name)?;
@@ -38,7 +43,9 @@ fn open_both(rt: &HostRuntime, path: &str) -> io::Result<File> {
 
 /// Opens the named pipe `join` of the folder.
 #[inline(never)]
-pub fn open_door(rt: &HostRuntime, folder: &str) -> io::Result<Door> {
+pub fn open_door(rt: &HostRuntime, folder: &str) -> io::Result<Door>
+    ensures folder { IfOk result (λ door. string_bytes door.folder ≡ folder.now) }
+{
     let path = path_of(rt.alloc(), folder, "join", "")?;
     let join = open_both(rt, path.as_str())?;
     let folder = String::from_str(rt.alloc(), folder)?;
@@ -59,7 +66,9 @@ fn open_pair(rt: &HostRuntime, folder: &str, name: &str) -> io::Result<(File, Fi
 }
 
 // Whether it may be the name of a process: digits and dashes.
-fn is_name(name: &[u8]) -> bool {
+fn is_name(name: &[u8]) -> bool
+    ensures { IsTrue result ↔ IsProcessName name.now }
+{
     !name.is_empty()
         && name.len() <= MOST_NAME
         && name

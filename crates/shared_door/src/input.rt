@@ -15,6 +15,12 @@ use std::sync::{Arc, Wait};
 use std::thread;
 use std::thread::Threads;
 
+/// How many bytes of long frames a thread has memory for: one that is written, one that waits and one that is read.
+const MOST_AHEAD: usize = 3 << 20;
+
+/// How many bytes of a long frame the engine has memory for, which reads the first one itself.
+const MOST_OWN: usize = 1 << 20;
+
 /// Standard input. While a long frame is written a thread reads the next one, where a thread was had.
 #[derive(Drop)]
 struct Reading<'a, H> {
@@ -24,7 +30,7 @@ struct Reading<'a, H> {
     ahead: Option<Arc<Ahead>>,
     // The thread reads.
     is_ahead: bool,
-    // Whose the frame was that came last.
+    // Whose the long frame was that came last.
     last: u64,
 }
 
@@ -49,8 +55,14 @@ fn came_of(
     Came { arrival, error }
 }
 
+// Takes that much memory, touches it and frees it. The allocator keeps it, so that no long frame is the first in its memory.
+fn make_room(alloc: Global, len: usize) {
+    let _ = Vec::from_elem(alloc, 0u8, len);
+}
+
 // Reads whenever it is to, until the engine takes no more.
 fn read_ahead<R: Wait>(handle: &R, rt: HostRuntime, ahead: &Ahead) {
+    make_room(rt.alloc(), MOST_AHEAD);
     let error = RefCell::new(None);
     let mut source = StdSource::new(Hearing {
         reader: rt.stdin(),
@@ -108,7 +120,7 @@ impl<'a, H: Wait> Reading<'a, H> {
             _ => came_of(alloc, &mut self.source, self.error),
         };
         let leads = came.leads(self.last);
-        self.last = came.actor();
+        self.last = came.last_long(self.last);
         self.is_ahead = leads && (self.is_ahead || self.begin());
         came
     }
@@ -120,6 +132,7 @@ pub fn input_frames<'a, H: Threads + Wait + Copy + Send + 'static>(
     rt: HostRuntime,
     error: &'a RefCell<Option<io::Error>>,
 ) -> InputFrames<'a, H> {
+    make_room(rt.alloc(), MOST_OWN);
     InputFrames {
         reading: Reading {
             handle,

@@ -1,8 +1,9 @@
 //! What a store keeps of its folder, and each step's way to the system.
-ghost use Rattle.std.specs.Prelude.{◌≡◌, [], max, false, IfOk, IfErr, string_bytes};
+ghost use Rattle.std.specs.Prelude.{◌≡◌, [], max, false, None, IfOk, IfErr, string_bytes};
 ghost use Rattle.store_api.specs.Step.{step_of};
 ghost use Rattle.folder_calls.specs.Own.{is_own};
 ghost use Rattle.store_folder.specs.Leaving.{Attempts, EndsAmongRooms};
+ghost use Rattle.store_folder.specs.Places.{file_of};
 ghost use Rattle.store_folder.specs.StepPlaces.{room_name, place_of};
 
 use folder_calls::{Calls, Failure, FileKey, OpenFiles, OwnFiles, Place};
@@ -58,6 +59,18 @@ impl<C: Calls<File = F> + Drop, F: Drop> Disk<C, F> {
     fn perform(&mut self, step: &Step<'_>) -> Result<Answer, Failure>
         ensures ends { EndsAmongRooms C.log self.old self.new (step_of step.now) result }
     {
+        match file_of(step) {
+            Some(key) => self.act_at(&key, step),
+            None => self.act_on_names(step),
+        }
+    }
+
+    // Makes one step that is on no open file. Its locals are many, and aren't to stand in the frame of a step that is.
+    #[inline(never)]
+    fn act_on_names(&mut self, step: &Step<'_>) -> Result<Answer, Failure>
+        requires { file_of (step_of step.now) ≡ None }
+        ensures ends { EndsAmongRooms C.log self.old self.new (step_of step.now) result }
+    {
         match *step {
             Step::Rooms => self.room_names(),
             Step::FindRoom { name } => Ok(self.find_room(&name)),
@@ -85,62 +98,81 @@ impl<C: Calls<File = F> + Drop, F: Drop> Disk<C, F> {
                 },
                 &to,
             ),
-            Step::Length { room, folder, file }
-            | Step::ReadAt {
-                room,
-                folder,
-                file,
-                ..
-            }
-            | Step::WriteAt {
-                room,
-                folder,
-                file,
-                ..
-            }
-            | Step::Cut {
-                room,
-                folder,
-                file,
-                ..
-            }
-            | Step::Sync { room, folder, file } => self.act_at(
-                &FileKey { room, folder, file },
-                step,
-            ),
+            Step::Length { .. }
+            | Step::ReadAt { .. }
+            | Step::WriteAt { .. }
+            | Step::Cut { .. }
+            | Step::Sync { .. } => unreachable!(),
         }
     }
 }
 
+// The file of a step that is made on an open one.
+fn file_of(step: &Step<'_>) -> Option<FileKey>
+    ensures { result ≡ file_of (step_of step.now) }
+{
+    match *step {
+        Step::Length { room, folder, file }
+        | Step::ReadAt {
+            room,
+            folder,
+            file,
+            ..
+        }
+        | Step::WriteAt {
+            room,
+            folder,
+            file,
+            ..
+        }
+        | Step::Cut {
+            room,
+            folder,
+            file,
+            ..
+        }
+        | Step::Sync { room, folder, file } => Some(FileKey { room, folder, file }),
+        _ => None,
+    }
+}
+
 impl<C, F> Disk<C, F> {
-    // The name of a room, where it has one.
-    fn room_name(&self, room: u64) -> Name
-        ensures { result ≡ room_name self.now room }
+    // Lays down the name of a room, where it has one.
+    fn put_room_name(&self, room: u64, into: &mut Name)
+        ensures { into.new ≡ room_name self.now room }
     {
-        self.rooms
-            .get(room as usize)
-            .copied()
-            .unwrap_or(Name::empty())
+        match self.rooms.get(room as usize) {
+            Some(name) => *into = *name,
+            None => *into = Name::empty(),
+        }
     }
 
-    /// Where a step is made, below ROOT. Before the rooms were numbered that is ROOT itself.
-    pub fn place_of(&self, step: &Step<'_>) -> Place
-        ensures { result ≡ place_of self.now (step_of step.now) }
+    // Lays down where a step on a room is made. Each name is copied once.
+    fn put_names(&self, room: u64, folder: &Name, file: &Name, into: &mut Place)
+        ensures { into.new ≡ record { room = room_name self.now room; folder = folder.now; file = file.now } }
+    {
+        self.put_room_name(room, &mut into.room);
+        into.folder = *folder;
+        into.file = *file;
+    }
+
+    /// Lays down where a step is made, below ROOT. Before the rooms were numbered that is ROOT itself.
+    pub fn put_place(&self, step: &Step<'_>, into: &mut Place)
+        ensures { into.new ≡ place_of self.now (step_of step.now) }
     {
         if !self.is_numbered {
-            return Place::root();
+            *into = Place::root();
+            return;
         }
-        match *step {
-            Step::Rooms => Place::root(),
-            Step::FindRoom { name } | Step::MakeRoom { name, .. } => Place::of_room(name),
-            Step::RenameRoom { room, .. } => Place::of_room(self.room_name(room)),
+        match step {
+            Step::Rooms => *into = Place::root(),
+            Step::FindRoom { name } | Step::MakeRoom { name, .. } => *into = Place::of_room(*name),
+            Step::RenameRoom { room, .. } => {
+                self.put_names(*room, &Name::empty(), &Name::empty(), into)
+            }
             Step::MakeFolder { room, folder }
             | Step::RemoveFolder { room, folder }
-            | Step::List { room, folder } => Place {
-                room: self.room_name(room),
-                folder,
-                file: Name::empty(),
-            },
+            | Step::List { room, folder } => self.put_names(*room, folder, &Name::empty(), into),
             Step::Create { room, folder, file }
             | Step::Remove { room, folder, file }
             | Step::Replace {
@@ -168,11 +200,7 @@ impl<C, F> Disk<C, F> {
                 file,
                 ..
             }
-            | Step::Sync { room, folder, file } => Place {
-                room: self.room_name(room),
-                folder,
-                file,
-            },
+            | Step::Sync { room, folder, file } => self.put_names(*room, folder, file, into),
         }
     }
 }

@@ -135,6 +135,7 @@ impl<C: Calls<File = F>, F: Drop> Disk<C, F> {
     }
 
     // Finds the file, and makes the step on it.
+    #[inline(never)]
     fn find_and_act(&mut self, key: &FileKey, step: &Step<'_>) -> Result<Answer, Failure>
         ensures ends { file_of (step_of step.now) ≡ Some key.now → EndsAmongRooms C.log self.old self.new (step_of step.now) result }
     {

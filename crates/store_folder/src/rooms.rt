@@ -37,6 +37,7 @@ fn push_room(rooms: &mut Vec<Name>, is_room: bool, name: &Name) -> Result<(), Fa
 }
 
 // The names of the rooms in byte order. ROOT itself may be reached by a link, and no room is.
+#[inline(never)]
 fn list_rooms<C: Calls<File = F>, F: Drop>(
     calls: &mut C,
     alloc: Global,

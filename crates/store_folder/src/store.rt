@@ -222,12 +222,12 @@ impl<C: Calls<File = F> + Drop, F: Drop> Store for StoreByCalls<C, F> {
     {
         self.disk.calls.forget();
         let end = attempt(&mut self.disk, &mut self.doubts, step);
-        self.last = self.disk.place_of(step);
+        self.disk.put_place(step, &mut self.last);
         settle(
             &mut self.counts,
             &mut self.cause,
             &self.disk.calls,
-            self.last,
+            &self.last,
             end,
         )
     }
@@ -238,13 +238,13 @@ fn settle<C: Calls>(
     counts: &mut Counts,
     cause: &mut Option<Cause>,
     calls: &C,
-    place: Place,
+    place: &Place,
     end: Result<Answer, Failure>,
 ) -> Result<Answer, Trouble>
     ensures tells { result ≡ told_of end }
     ensures told { (step : StepMade) → Acts step (untold counts.old.acts counts.old.faults) (untold counts.new.acts counts.new.faults) result }
     ensures counted { CountsFaults (untold counts.old.acts counts.old.faults) (untold counts.new.acts counts.new.faults) result }
-    ensures cause { IsErrOf result Trouble.Fault → cause.new ≡ Some (record { place = place; reason = unwrap_or (C.told calls.now) Reason.Unnameable }) }
+    ensures cause { IsErrOf result Trouble.Fault → cause.new ≡ Some (record { place = place.now; reason = unwrap_or (C.told calls.now) Reason.Unnameable }) }
 {
     match end {
         Ok(answer) => {
@@ -253,7 +253,7 @@ fn settle<C: Calls>(
         }
         Err(Failure::Failed) => {
             *cause = Some(Cause {
-                place,
+                place: *place,
                 reason: calls.reason().unwrap_or(Reason::Unnameable),
             });
             counts.count_act();

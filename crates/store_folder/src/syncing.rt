@@ -48,9 +48,20 @@ fn renamed_by(step: &Step<'_>) -> Item
     }
 }
 
-/// Why the step is refused, where it is.
-pub fn refusal(doubts: &Doubts, step: &Step<'_>) -> Option<Doubt>
+// Why a step that syncs or renames is refused, where it is.
+#[inline(never)]
+fn refusal_of_sync(doubts: &Doubts, step: &Step<'_>) -> Option<Doubt>
     ensures { result ≡ refusal doubts.now (step_of step.now) }
 {
     doubts.of(&synced_by(step)).or(doubts.of(&renamed_by(step)))
+}
+
+/// Why the step is refused, where it is. Those that are made most sync nothing, and are told first.
+pub fn refusal(doubts: &Doubts, step: &Step<'_>) -> Option<Doubt>
+    ensures { result ≡ refusal doubts.now (step_of step.now) }
+{
+    match *step {
+        Step::Length { .. } | Step::ReadAt { .. } | Step::WriteAt { .. } | Step::Cut { .. } => None,
+        _ => refusal_of_sync(doubts, step),
+    }
 }

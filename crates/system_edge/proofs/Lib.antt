@@ -1,2 +1,3 @@
+mod FolderPaths
 mod Holders
 mod Left

@@ -1,5 +1,5 @@
 -- Folders that are no ROOT, by what is told to stand at paths.
-use Rattle.std.specs.Prelude.{◌≡◌, ◌⊎◌, ⊤, ℕ, List, ◌∷◌, ◌++◌, Option, Some, None, Result, Ok, Err, IfSome, codes}
+use Rattle.std.specs.Prelude.{◌≡◌, ◌⊎◌, ◌<◌, ⊤, ℕ, List, [], ◌∷◌, ◌++◌, Option, Some, None, Result, Ok, Err, IfSome, codes, get_or}
 use Rattle.std.specs.Fs.{IsDir, IsFile, file_type, metadata_len}
 use Rattle.std.specs.IoError.{error_kind}
 use Rattle.std.specs.declared.fs.attrs.Metadata.{Metadata}
@@ -77,3 +77,53 @@ IsRightDenial told path denial.Container = IsContainer told path
 IsRightDenial told path denial.InContainer = (holder : List ℕ) × LiesIn path holder × IsContainer told holder
 IsRightDenial told path (denial.Unseen error) = (folder : List ℕ) × ((folder ≡ path) ⊎ LiesIn path folder) × IsUnseenItem (told (folder ++ codes "/access")) (denial.Unseen error)
 IsRightDenial told path why = ⊥
+
+-- ---- the folders of a ROOT
+
+-- the path from the top of a folder, or why it has none
+abbrev pub Named : Type 0
+Named = Result (List ℕ) Error
+
+-- no path is had for this reason: want of memory, or that which is told
+abbrev pub HasNoPath : Error → Named → Type 0
+HasNoPath error named = (error_kind error ≡ kind.OutOfMemory) ⊎ (named ≡ Err error)
+
+-- the folder of this path is free; one that has none can't be opened
+abbrev pub IsFreeNamed : (List ℕ → Option Seen) → Named → Type 0
+IsFreeNamed told (Ok path) = IsFree told path
+IsFreeNamed told (Err error) = ⊤
+
+-- it is refused for a right reason; one that has no path is for want of memory alone
+abbrev pub IsDeniedNamed : (List ℕ → Option Seen) → Denial → Named → Type 0
+IsDeniedNamed told why (Ok path) = IsRightDenial told path why
+IsDeniedNamed told why (Err error) = why ≡ denial.NoMemory
+
+abbrev pub IsFreeFolder : (List ℕ → Option Named) → (List ℕ → Option Seen) → List ℕ → Type 0
+IsFreeFolder named told folder = IfSome (named folder) (IsFreeNamed told)
+
+abbrev pub IsDeniedFolder : (List ℕ → Option Named) → (List ℕ → Option Seen) → List ℕ → Denial → Type 0
+IsDeniedFolder named told folder why = IfSome (named folder) (IsDeniedNamed told why)
+
+-- the folder at this place in ROOT
+abbrev pub folder_at : List (List ℕ) → ℕ → List ℕ
+folder_at folders place = get_or folders place []
+
+-- each folder before this place is free
+abbrev pub AreFreeBefore : (List ℕ → Option Named) → (List ℕ → Option Seen) → List (List ℕ) → ℕ → Type 0
+AreFreeBefore named told folders end = (place : ℕ) → place < end → IsFreeFolder named told (folder_at folders place)
+
+-- it was used as a ROOT, or wasn't, where that is told
+abbrev pub HasMarks : (List ℕ → Option Seen) → List ℕ → Type 0
+HasMarks told folder = IfSome (told (folder ++ codes "/.plfs")) (Sees AreMarks)
+
+abbrev pub HasNoMarks : (List ℕ → Option Seen) → List ℕ → Type 0
+HasNoMarks told folder = IfSome (told (folder ++ codes "/.plfs")) (SeesNone AreMarks)
+
+-- of any two folders before this place one has no marks
+abbrev pub AreMarkedOnce : (List ℕ → Option Seen) → List (List ℕ) → ℕ → Type 0
+AreMarkedOnce told folders end = (first later : ℕ) → first < later → later < end → HasNoMarks told (folder_at folders first) ⊎ HasNoMarks told (folder_at folders later)
+
+-- the folder at this place is refused for its marks, and one before it has some too; or it can't be said whether it has some
+abbrev pub IsAloneDenial : (List ℕ → Option Seen) → List (List ℕ) → ℕ → Denial → Type 0
+IsAloneDenial told folders place denial.UsedAlone = HasMarks told (folder_at folders place) × ((first : ℕ) × (first < place) × HasMarks told (folder_at folders first))
+IsAloneDenial told folders place why = IsUnseenItem (told (folder_at folders place ++ codes "/.plfs")) why

@@ -2,9 +2,10 @@
 //!
 //! The locks are those of flock(2). The system takes them away from a program that ends, however it ends. Where it gives
 //! none, as on some file systems, the folder is served without.
-ghost use Rattle.std.specs.Prelude.{◌≡◌, ◌<◌, ◌+◌, length, vec_len, IfOk, IfErr, Err};
+ghost use Rattle.std.specs.Prelude.{◌≡◌, ◌<◌, ◌+◌, length, map, vec_len, IfOk, IfErr, OnOk, Err};
+ghost use Rattle.system_edge.specs.Roots.{AreFreeBefore, AreMarkedOnce};
 
-use crate::roots::{first_marked_alone, first_unfit};
+use crate::roots::{Looks, SystemLooks, first_marked_alone, first_unfit};
 use std::alloc::{AllocError, Global};
 use std::fmt::{Display, Formatter};
 use std::fs::{File, TryLockError};
@@ -88,9 +89,31 @@ pub fn lock_folders(rt: &HostRuntime, folders: &[&str]) -> Result<Locks, Denied>
     ensures each { IfOk result (λ locks. vec_len locks.held ≡ length folders.now) }
     ensures place { IfErr result (λ denied. denied.place < length folders.now) }
 {
-    if let Some(denied) = first_unfit(rt, folders) {
+    lock_seen(rt, &SystemLooks { rt: *rt }, folders)
+}
+
+// The same, by what is seen of the folders. All that are locked may be a ROOT together.
+fn lock_seen<L: Looks>(rt: &HostRuntime, looks: &L, folders: &[&str]) -> Result<Locks, Denied>
+    ensures each { IfOk result (λ locks. vec_len locks.held ≡ length folders.now) }
+    ensures place { IfErr result (λ denied. denied.place < length folders.now) }
+    ensures free { OnOk result (AreFreeBefore (L.named looks.now) (L.told looks.now) (map (λ folder. folder.now) folders.now) (length folders.now)) }
+    ensures marked { OnOk result (AreMarkedOnce (L.told looks.now) (map (λ folder. folder.now) folders.now) (length folders.now)) }
+{
+    if let Some(denied) = first_unfit(rt.alloc(), looks, folders) {
         return Err(denied);
     }
+    let held = lock_each(rt, folders)?;
+    match first_marked_alone(rt.alloc(), looks, folders) {
+        Some(denied) => Err(denied),
+        None => Ok(Locks { held }),
+    }
+}
+
+// Opens and locks each of the folders, in their order.
+fn lock_each(rt: &HostRuntime, folders: &[&str]) -> Result<Vec<File>, Denied>
+    ensures each { IfOk result (λ held. vec_len held ≡ length folders.now) }
+    ensures place { IfErr result (λ denied. denied.place < length folders.now) }
+{
     let mut held = Vec::new(rt.alloc());
     for place in 0..folders.len() {
         let end = match lock_folder(rt, &held, folders[place]) {
@@ -101,10 +124,7 @@ pub fn lock_folders(rt: &HostRuntime, folders: &[&str]) -> Result<Locks, Denied>
             return Err(Denied { place, why });
         }
     }
-    match first_marked_alone(rt, folders) {
-        Some(denied) => Err(denied),
-        None => Ok(Locks { held }),
-    }
+    Ok(held)
 }
 
 fn keep(held: &mut Vec<File>, folder: File) -> Result<(), Denial>

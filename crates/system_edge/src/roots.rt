@@ -1,10 +1,10 @@
 //! Folders that are no ROOT, though they can be locked: a container, what lies in one, and the folder of a ROOT's marks.
 //!
 //! A run over such a folder would leave marks there, and readers of the container would be told damage from then on.
-ghost use Rattle.std.specs.Prelude.{◌≡◌, ◌<◌, ◌⊎◌, ◌++◌, ◌↔◌, List, ℕ, Option, Err, IsTrue, IfErr, IfOk, IfSome, OnOk, codes, get_or, length, not, take};
+ghost use Rattle.std.specs.Prelude.{◌≡◌, ◌<◌, ◌⊎◌, ◌++◌, ◌↔◌, List, ℕ, Option, Ok, Err, IsTrue, IfErr, IfOk, IfSome, IfNone, OnOk, codes, get_or, length, map, not, string_bytes, take};
 ghost use Rattle.std.specs.Fs.{file_type, metadata_len};
 ghost use Rattle.std.specs.IoError.{error_kind};
-ghost use Rattle.system_edge.specs.Roots.{AreMarks, EndsInMarks, IsAbsence, IsAccess, IsContainer, IsFree, IsNoContainer, IsOfMarks, IsRightDenial, IsUnseenItem, Seen, Sees, SeesNone, Shows};
+ghost use Rattle.system_edge.specs.Roots.{AreFreeBefore, AreMarks, AreMarkedOnce, EndsInMarks, HasNoPath, IsAbsence, IsAccess, IsAloneDenial, folder_at, IsContainer, IsDeniedFolder, IsFree, IsFreeFolder, IsNoContainer, IsOfMarks, IsRightDenial, IsUnseenItem, Named, Seen, Sees, SeesNone, Shows};
 
 use crate::lock::{Denial, Denied};
 use std::alloc::Global;
@@ -16,15 +16,23 @@ pub(crate) trait Looks {
     /// What is seen at each path, where it tells that.
     ghost told: { Self → List ℕ → Option Seen };
 
+    /// The path from the top of each folder, where it tells that.
+    ghost named: { Self → List ℕ → Option Named };
+
     /// Looks at what stands at this path, and follows no link that stands there.
     fn look(&self, path: &str) -> io::Result<Metadata>
         ensures { IfSome (told self.now path.now) (λ seen. result ≡ seen) };
+
+    /// The path of this folder from the top. There may always be none for want of memory.
+    fn path_of(&self, folder: &str) -> io::Result<String>
+        ensures path { IfOk result (λ path. IfSome (named self.now folder.now) (λ seen. seen ≡ Ok (string_bytes path))) }
+        ensures none { IfErr result (λ error. IfSome (named self.now folder.now) (HasNoPath error)) };
 }
 
 /// The system itself. It tells nothing, and what it says is trusted.
 #[derive(Clone, Copy)]
-struct SystemLooks {
-    rt: HostRuntime,
+pub(crate) struct SystemLooks {
+    pub(crate) rt: HostRuntime,
 }
 
 impl Looks for SystemLooks {
@@ -32,8 +40,15 @@ impl Looks for SystemLooks {
 
     ghost told = { λ _ _. None };
 
+    ghost named = { λ _ _. None };
+
     fn look(&self, path: &str) -> io::Result<Metadata> {
         fs::symlink_metadata(&self.rt, path)
+    }
+
+    fn path_of(&self, folder: &str) -> io::Result<String> {
+        let path = fs::canonicalize(&self.rt, folder)?;
+        Ok(String::from_str(self.rt.alloc(), path.as_str())?)
     }
 }
 
@@ -177,22 +192,37 @@ fn check_path<L: Looks>(alloc: Global, looks: &L, path: &str) -> Result<(), Deni
     Ok(())
 }
 
-// Refuses such a folder. One whose path from the top the system doesn't tell passes: it can't be opened either. Which path is the folder's
-// is trusted.
-fn check_folder(rt: &HostRuntime, folder: &str) -> Result<(), Denial> {
-    match fs::canonicalize(rt, folder) {
-        Ok(path) => check_path(rt.alloc(), &SystemLooks { rt: *rt }, path.as_str()),
+// Refuses such a folder. One that has no path from the top passes: it can't be opened either.
+#[tactic(auto, using(crate::proofs::FolderPaths::free_so, crate::proofs::FolderPaths::pathless_so, crate::proofs::FolderPaths::denied_named, crate::proofs::FolderPaths::starved_named))]
+fn check_folder<L: Looks>(alloc: Global, looks: &L, folder: &str) -> Result<(), Denial>
+    ensures free { OnOk result (IsFreeFolder (L.named looks.now) (L.told looks.now) folder.now) }
+    ensures denied { IfErr result (IsDeniedFolder (L.named looks.now) (L.told looks.now) folder.now) }
+{
+    match looks.path_of(folder) {
+        Ok(path) => check_path(alloc, looks, path.as_str()),
         Err(error) if error.kind() == ErrorKind::OutOfMemory => Err(Denial::NoMemory),
         Err(_) => Ok(()),
     }
 }
 
+// The folder at this place.
+fn folder_in<'a>(folders: &[&'a str], place: usize) -> &'a str
+    requires { place < length folders.now }
+    ensures { result.now ≡ folder_at (map (λ folder. folder.now) folders.now) place }
+{
+    folders[place]
+}
+
 /// The first of these folders that is a container, lies in one, or has the marks of a ROOT. No folder is touched.
-pub(crate) fn first_unfit(rt: &HostRuntime, folders: &[&str]) -> Option<Denied>
+#[tactic(auto, using(crate::proofs::FolderPaths::free_on))]
+pub(crate) fn first_unfit<L: Looks>(alloc: Global, looks: &L, folders: &[&str]) -> Option<Denied>
     ensures place { IfSome result (λ denied. denied.place < length folders.now) }
+    ensures why { IfSome result (λ denied. IsDeniedFolder (L.named looks.now) (L.told looks.now) (folder_at (map (λ folder. folder.now) folders.now) denied.place) denied.why) }
+    ensures before { IfSome result (λ denied. AreFreeBefore (L.named looks.now) (L.told looks.now) (map (λ folder. folder.now) folders.now) denied.place) }
+    ensures none { IfNone result (AreFreeBefore (L.named looks.now) (L.told looks.now) (map (λ folder. folder.now) folders.now) (length folders.now)) }
 {
     for place in 0..folders.len() {
-        if let Err(why) = check_folder(rt, folders[place]) {
+        if let Err(why) = check_folder(alloc, looks, folder_in(folders, place)) {
             return Some(Denied { place, why });
         }
     }
@@ -200,20 +230,27 @@ pub(crate) fn first_unfit(rt: &HostRuntime, folders: &[&str]) -> Option<Denied>
 }
 
 /// The first of these folders that has marks of its own behind one that has some. All marks of several folders lie in the first one.
-pub(crate) fn first_marked_alone(rt: &HostRuntime, folders: &[&str]) -> Option<Denied>
+#[tactic(auto, using(crate::proofs::FolderPaths::first_marked, crate::proofs::FolderPaths::another_unmarked, crate::proofs::FolderPaths::alone_unseen))]
+pub(crate) fn first_marked_alone<L: Looks>(
+    alloc: Global,
+    looks: &L,
+    folders: &[&str],
+) -> Option<Denied>
     ensures place { IfSome result (λ denied. denied.place < length folders.now) }
+    ensures why { IfSome result (λ denied. IsAloneDenial (L.told looks.now) (map (λ folder. folder.now) folders.now) denied.place denied.why) }
+    ensures none { IfNone result (AreMarkedOnce (L.told looks.now) (map (λ folder. folder.now) folders.now) (length folders.now)) }
 {
     let mut is_marked = false;
     for place in 0..folders.len() {
-        let why = match has_marks(rt.alloc(), &SystemLooks { rt: *rt }, folders[place]) {
-            Ok(true) if is_marked => Denial::UsedAlone,
-            Ok(has_marks) => {
-                is_marked = is_marked || has_marks;
-                continue;
+        match has_marks(alloc, looks, folder_in(folders, place)) {
+            Ok(false) => {}
+            Ok(true) if is_marked => {
+                let why = Denial::UsedAlone;
+                return Some(Denied { place, why });
             }
-            Err(why) => why,
-        };
-        return Some(Denied { place, why });
+            Ok(true) => is_marked = true,
+            Err(why) => return Some(Denied { place, why }),
+        }
     }
     None
 }

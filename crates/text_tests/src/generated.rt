@@ -44,11 +44,11 @@ fn a_generated_script_is_what_its_text_says(rt: HostRuntime) -> Result<(), Fail>
     add_text(&mut text, 2);
     let read = Script::read(rt.alloc(), text.as_str().as_bytes())?;
     let mut wanted = Line::new(rt.alloc());
-    tell(&mut wanted, &read);
+    tell(rt.alloc(), &mut wanted, &read);
     drop(read);
     let made = generate(rt.alloc(), 2)?;
     let mut told = Line::new(rt.alloc());
-    tell(&mut told, &made);
+    tell(rt.alloc(), &mut told, &made);
     drop(made);
     // Two actors, four phases, and 134 statements.
     assert!(rt; told.as_str().lines().count() == 2 + 4 + 134);
@@ -63,7 +63,7 @@ fn size(line: &mut Line, script: &Script) {
         let statements = phase.statements.as_slice();
         line.fill("% ", &[statements.len() as u64]);
         if let Some(last) = statements.last() {
-            end = last.line;
+            end = last.line();
         }
     }
     line.fill("to %\n", &[end]);

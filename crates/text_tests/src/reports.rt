@@ -226,8 +226,10 @@ fn each_outcome_has_its_line_and_is_read_back(rt: HostRuntime) -> Result<(), Fai
     let lines = read(rt.alloc(), TEXT.as_bytes())?;
     let mut told = Line::new(rt.alloc());
     for line in lines.as_slice() {
-        told.fill("%: ", &[line.number]);
-        tell(&mut told, &line.outcome);
+        told.fill("%: ", &[line.number()]);
+        let seen = line.seen();
+        tell(&mut told, seen.outcome());
+        drop(seen);
         told.push("\n");
     }
     let text = print(rt.alloc(), &lines);

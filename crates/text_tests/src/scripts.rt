@@ -157,7 +157,7 @@ fn tell_statement(line: &mut Line, statement: &Statement) {
 
 /// What a script means: the name, the host and the capacity of each actor, then for each phase its turns, and for each of
 /// its statements the line, the place of the actor, and the statement.
-pub(crate) fn tell(line: &mut Line, script: &Script) {
+pub(crate) fn tell(alloc: Global, line: &mut Line, script: &Script) {
     for actor in script.actors.as_slice() {
         named(line, "", &actor.name);
         line.fill(
@@ -171,8 +171,14 @@ pub(crate) fn tell(line: &mut Line, script: &Script) {
             line.fill("turns of %: %\n", &[turned.actor, turned.count]);
         }
         for numbered in phase.statements.as_slice() {
-            line.fill("%, by %: ", &[numbered.line, numbered.actor]);
-            tell_statement(line, &numbered.statement);
+            line.fill("%, by %: ", &[numbered.line(), numbered.actor()]);
+            match numbered.copy(alloc) {
+                Ok(statement) => {
+                    tell_statement(line, &statement);
+                    drop(statement);
+                }
+                Err(_) => line.push("no memory"),
+            }
             line.push("\n");
         }
     }
@@ -217,7 +223,7 @@ fn a_script_means_its_lines(rt: HostRuntime) -> Result<(), Fail> {
     for (text, want) in [(LINES, MEANING), ("", "phase\n")] {
         let script = Script::read(rt.alloc(), text.as_bytes())?;
         let mut line = Line::new(rt.alloc());
-        tell(&mut line, &script);
+        tell(rt.alloc(), &mut line, &script);
         drop(script);
         assert!(rt; line.as_str() == want, "{text}");
     }

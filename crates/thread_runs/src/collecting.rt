@@ -5,7 +5,7 @@ ghost use Rattle.thread_runs.specs.Collecting.{lines_in, Suffice, HasLine, HaveL
 
 use crate::told::Told;
 use plfs_types::NoMemory;
-use script_lang::{Lines, Numbered, Phase};
+use script_lang::{CompactStatement, Lines, Phase};
 use std::alloc::Global;
 
 /// Puts the next line of the actor at this place behind the others.
@@ -17,7 +17,7 @@ fn take_line(all: &mut [Told], place: usize, lines: &mut Lines) -> Result<(), No
     let told = &mut all[place];
     match told.pop() {
         Some(line) => {
-            lines.push(line)?;
+            lines.put(line)?;
             Ok(())
         }
         None => unreachable!(),
@@ -25,13 +25,17 @@ fn take_line(all: &mut [Told], place: usize, lines: &mut Lines) -> Result<(), No
 }
 
 /// Puts the lines of these statements behind the others.
-fn take_lines(all: &mut [Told], statements: &[Numbered], lines: &mut Lines) -> Result<(), NoMemory>
+fn take_lines(
+    all: &mut [Told],
+    statements: &[CompactStatement],
+    lines: &mut Lines,
+) -> Result<(), NoMemory>
     requires there { All (λ statement. statement.actor < length all.old) statements.now }
     requires enough { Suffice statements.now (lines_in all.old) }
     ensures { OnOk result (TakesAll statements.now lines.old (lines_in all.old) lines.new (lines_in all.new)) }
 {
     for statement in statements {
-        take_line(all, statement.actor as usize, lines)?;
+        take_line(all, statement.actor() as usize, lines)?;
     }
     Ok(())
 }

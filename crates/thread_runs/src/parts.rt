@@ -3,18 +3,18 @@ ghost use Rattle.std.specs.Prelude.{◌≡◌, ◌<◌, ◌≤◌, ◌++◌, ◌
 ghost use Rattle.thread_runs.specs.Parts.{statements_of, dealt, AreParts};
 
 use plfs_types::NoMemory;
-use script_lang::Numbered;
+use script_lang::CompactStatement;
 use std::alloc::Global;
 
 /// The part of an actor in a phase: its statements, in their order.
 #[derive(Drop)]
 pub(crate) struct Part<'a> {
-    pub(crate) statements: Vec<&'a Numbered>,
+    pub(crate) statements: Vec<&'a CompactStatement>,
 }
 
 impl<'a> Part<'a> {
     /// One statement more.
-    fn push(&mut self, statement: &'a Numbered) -> Result<(), NoMemory>
+    fn push(&mut self, statement: &'a CompactStatement) -> Result<(), NoMemory>
         ensures { OnOk result (statements_of self.new ≡ statements_of self.old ++ statement.now ∷ []) }
     {
         self.statements.push(statement)?;
@@ -47,13 +47,14 @@ fn empty_parts<'a>(alloc: Global, count: usize) -> Result<Vec<Part<'a>>, NoMemor
 }
 
 /// Gives each actor its own of these statements.
-fn deal_out<'a>(parts: &mut [Part<'a>], statements: &'a [Numbered]) -> Result<(), NoMemory>
+fn deal_out<'a>(parts: &mut [Part<'a>], statements: &'a [CompactStatement]) -> Result<(), NoMemory>
     requires there { All (λ statement. statement.actor < length parts.old) statements.now }
     requires empty { AreParts [] (dealt parts.old) }
     ensures { OnOk result (AreParts statements.entry.now (dealt parts.new)) }
 {
     for statement in statements {
-        let part = &mut parts[statement.actor as usize];
+        let place = statement.actor() as usize;
+        let part = &mut parts[place];
         part.push(statement)?;
     }
     Ok(())
@@ -73,7 +74,7 @@ fn busy_places(alloc: Global, parts: &[Part<'_>]) -> Result<Vec<usize>, NoMemory
 fn try_deal<'a>(
     alloc: Global,
     count: usize,
-    statements: &'a [Numbered],
+    statements: &'a [CompactStatement],
 ) -> Result<Parts<'a>, NoMemory>
     requires { All (λ statement. statement.actor < count) statements.now }
     ensures { IfOk result (λ parts. AreParts statements.entry.now (dealt parts.each.items)) }
@@ -85,7 +86,7 @@ fn try_deal<'a>(
 }
 
 /// The parts of so many actors, by one look at each statement.
-pub(crate) fn deal<'a>(alloc: Global, count: usize, statements: &'a [Numbered]) -> Parts<'a>
+pub(crate) fn deal<'a>(alloc: Global, count: usize, statements: &'a [CompactStatement]) -> Parts<'a>
     requires { All (λ statement. statement.actor < count) statements.now }
     ensures { AreParts statements.entry.now (dealt result.each.items) }
 {

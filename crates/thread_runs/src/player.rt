@@ -19,7 +19,7 @@ use actor_core::Actor;
 use edge_io::{Clock, Gate};
 use mount_core::Mount;
 use plfs_types::NoMemory;
-use script_lang::{Line, Numbered};
+use script_lang::{CompactStatement, Line};
 use share_workers::read_by_workers;
 use std::alloc::Global;
 use std::sync::Wait;
@@ -139,7 +139,7 @@ fn act<S: Store + Drop + Send, C: Clock + Drop + Send, G: Gate + Sync, R: Thread
     turn: &Turn<Mount<S, C>>,
     gate: &G,
     player: &mut Player<Pass<Mount<S, C>>>,
-    statement: &Numbered,
+    statement: &CompactStatement,
 ) -> Result<(), NoMemory>
     requires may { MayAct turn.now player.old.pass }
     requires made { IsMade statement.now }
@@ -148,8 +148,8 @@ fn act<S: Store + Drop + Send, C: Clock + Drop + Send, G: Gate + Sync, R: Thread
     ensures acted { OnOk result (Acted statement.now player.old player.new) }
     ensures broken { OnErr result (BrokenOff (statement.now ∷ []) player.old player.new) }
 {
-    let copy = statement.statement.copy(alloc)?;
-    player.actor.begin(statement.line, copy)?;
+    let copy = statement.copy(alloc)?;
+    player.actor.begin(statement.line(), copy)?;
     let line = drive(
         rt,
         alloc,

@@ -1,24 +1,38 @@
 //! Writers that write at one place in one phase: which of them came later stands in their lines, and a reader in the next phase reads what it wrote.
 use crate::runs::on_threads;
 use plfs_types::NoMemory;
-use script_lang::{Line, Outcome};
+use script_lang::{CompactLine, Outcome};
 use std::alloc::Global;
 use std::sync::Wait;
 use std::test::Fail;
 use std::thread::Threads;
 
 // The writer of the actor whose lines of opening and writing these are, with the write's stamp.
-fn written(opening: &Line, writing: &Line) -> Option<(u64, u64)> {
-    let Outcome::Opened { writer } = &opening.outcome else {
-        return None;
+fn written(opening: &CompactLine, writing: &CompactLine) -> Option<(u64, u64)> {
+    let (opened, wrote) = (opening.seen(), writing.seen());
+    let found = match (opened.outcome(), wrote.outcome()) {
+        (
+            Outcome::Opened { writer },
+            Outcome::Wrote {
+                stamp: Some(stamp),
+                ..
+            },
+        ) => Some((*stamp, *writer)),
+        _ => None,
     };
-    let Outcome::Wrote { stamp, .. } = &writing.outcome else {
-        return None;
+    drop((opened, wrote));
+    found
+}
+
+// Whether the line tells that this byte was read at the front.
+fn reads(line: &CompactLine, byte: &[u8]) -> bool {
+    let seen = line.seen();
+    let found = match seen.outcome() {
+        Outcome::Read { at: 0, content } => content.as_slice() == byte,
+        _ => false,
     };
-    let Some(stamp) = stamp else {
-        return None;
-    };
-    Some((*stamp, *writer))
+    drop(seen);
+    found
 }
 
 const TWO_WRITERS: &str =
@@ -37,11 +51,8 @@ fn reads_the_later<R: Threads + Wait + Sync>(
     let (Some(first), Some(second)) = (written(open_1, write_1), written(open_2, write_2)) else {
         return Ok(false);
     };
-    let Outcome::Read { at: 0, content } = &read.outcome else {
-        return Ok(false);
-    };
     let later: &[u8] = if second < first { b"A" } else { b"B" };
-    Ok(first.1 != second.1 && content.as_slice() == later)
+    Ok(first.1 != second.1 && reads(read, later))
 }
 
 // The clock rises, stands still, or falls.

@@ -1,9 +1,10 @@
 -- Where the stages of a write stand in its program.
-use Rattle.std.specs.Prelude.{ℕ}
+use Rattle.std.specs.Prelude.{◌≡◌, ℕ}
 use Rattle.mount_model.specs.Program.{done}
 use Rattle.mount_model.specs.Standing.{Standing, ready, asked}
 use Rattle.mount_model.specs.declared.call.Call.{Call}
 use Rattle.mount_model.specs.declared.reply.Reply.{Reply}
+use Rattle.writer_flow.specs.declared.handle.WriterHandle.{WriterHandle}
 use Rattle.writer_flow.specs.declared.handle.WriterOut.{WriterOut}
 use Rattle.writer_flow.specs.declared.writing.WriteFlow.{WriteFlow}
 use Rattle.writer_flow.specs.declared.writing.Stage.{Stage}
@@ -28,3 +29,8 @@ write_standing flow = writing flow.at flow.stage
 
 abbrev pub write_left : WriteFlow → ℕ
 write_left flow = calls_left flow.stage
+
+-- it has the writer's block, which is to be handed over
+abbrev pub HasBlock : WriterHandle → Stage → Type 0
+HasBlock handle (Ready other block) = handle ≡ other
+HasBlock handle _ = ⊥

@@ -25,7 +25,7 @@ enum Stage {
 }
 
 impl WriteFlow {
-    ghost use Rattle.mount_model.specs.Standing.{ready};
+    ghost use Rattle.mount_model.specs.Standing.{ready, rest_of, over, IsOver};
     ghost use Rattle.writer_flow.specs.Writing.{write_program};
     ghost use Rattle.writer_flow.specs.WritingStages.{write_standing};
 
@@ -40,6 +40,17 @@ impl WriteFlow {
         };
         WriteFlow { at, stage }
     }
+
+    /// What `out` gives, of a machine that stays where it is.
+    pub fn ended(&self) -> WriterOut
+        requires { IsOver (rest_of (write_standing self.now)) }
+        ensures { rest_of (write_standing self.now) ≡ over result }
+    {
+        match &self.stage {
+            Stage::Ended(out) => *out,
+            _ => unreachable!(),
+        }
+    }
 }
 
 impl Stage {
@@ -47,7 +58,7 @@ impl Stage {
     ghost use Rattle.mount_model.specs.Standing.{ready, rest_of, replied, Awaits};
     ghost use Rattle.writer_flow.specs.Handle.{flushed_of};
     ghost use Rattle.writer_flow.specs.Writing.{writes, if_flushed, if_wrote};
-    ghost use Rattle.writer_flow.specs.WritingStages.{writing, calls_left};
+    ghost use Rattle.writer_flow.specs.WritingStages.{writing, calls_left, HasBlock};
 
     /// The stage after the reply to this one's call.
     fn after(self, at: u64, reply: Reply) -> Stage
@@ -73,6 +84,18 @@ impl Stage {
             handle: None,
             result: Err(Stuck::Fault),
         })
+    }
+
+    /// The block, which is handed over.
+    fn handed_over(&mut self, handle: WriterHandle) -> Block
+        requires { HasBlock handle self.old }
+        ensures block { self.old ≡ Stage.Ready handle result }
+        ensures sent { self.new ≡ Stage.Sent handle }
+    {
+        match mem::replace(self, Stage::Sent { handle }) {
+            Stage::Ready { block, .. } => block,
+            _ => unreachable!(),
+        }
     }
 
     fn after_flush(handle: WriterHandle, at: u64, block: Block, reply: Reply) -> Stage
@@ -117,29 +140,20 @@ impl Flow for WriteFlow {
     ghost frugal = { Unit {0} };
 
     fn next(&mut self) -> Result<Option<Call>, NoMemory> {
-        match mem::replace(&mut self.stage, Stage::nothing()) {
-            Stage::Flushing { handle, block } => {
-                self.stage = Stage::Flushing { handle, block };
-                Ok(Some(Call::Flush {
-                    writer: handle.writer,
-                }))
-            }
-            Stage::Ready { handle, block } => {
-                self.stage = Stage::Sent { handle };
+        match &self.stage {
+            Stage::Flushing { handle, .. } => Ok(Some(Call::Flush {
+                writer: handle.writer,
+            })),
+            Stage::Ready { handle, .. } => {
+                let handle = *handle;
+                let block = self.stage.handed_over(handle);
                 Ok(Some(Call::Write {
                     writer: handle.writer,
                     at: self.at,
                     block,
                 }))
             }
-            Stage::Sent { handle } => {
-                self.stage = Stage::Sent { handle };
-                Ok(None)
-            }
-            Stage::Ended(out) => {
-                self.stage = Stage::Ended(out);
-                Ok(None)
-            }
+            Stage::Sent { .. } | Stage::Ended(_) => Ok(None),
         }
     }
 

@@ -1,11 +1,14 @@
-use Rattle.std.proofs.Common.{sym, ap, ◌∙◌}
-use Rattle.script_lang.specs.declared.script.Data.TheVariants.{Ramp}
-use Rattle.outcomes.specs.Data.{bytes_of, first_difference}
-use Rattle.outcomes.proofs.Agreeing.{ramp_agrees, is_nothing}
+use Rattle.std.proofs.Common.{◌≡◌, ◌≤◌, List, ℕ, map, take, sym, ap, ◌∙◌, arith}
+use Rattle.std.specs.List.{range_with_len}
+use Rattle.std.proofs.lemmas.List.FromFn.{take-map-range_with_len}
+use Rattle.outcomes.specs.Data.{ramp_byte, first_difference}
+use Rattle.outcomes.proofs.Agreeing.{ramp_of, ramp_agrees}
 use Rattle.outcomes.proofs.data.begins_with_ramp.Goals as goal
 
 pub returns-then-repeats : goal.returns-then-repeats
 returns-then-repeats c = λ told.
-    let none = is_nothing c.difference_by_bytes.result c.is_none.result c.is_none.ensures told in
-    ramp_agrees c.args.len c.args.first c.args.found.now (c.repeats.ensures c.if-repeats.true)
-    (ap (λ len. first_difference 0 (bytes_of (Ramp len c.args.first)) c.args.found.now) (sym c.min.ensures) ∙ sym c.difference_by_bytes.ensures ∙ none)
+    let first = c.args.first in
+    let few = c.min.result in
+    let begins = ap (λ (xs : List ℕ). take few xs) c.period-beginning.ensures ∙ take-map-range_with_len (ramp_byte first) 0 256 few (omega (arith, c.min.ensures)) ∙ ap (λ n. ramp_of first n) c.min.ensures in
+    ramp_agrees c.args.len first c.args.found.now (c.repeats.ensures c.if-repeats.true)
+    (ap (λ wanted. first_difference 0 wanted c.args.found.now) (sym begins) ∙ c.begins_with.ensures told)

@@ -1,9 +1,7 @@
-use Rattle.std.proofs.Common.{◌≡◌, Some, ap, refl, rules}
+use Rattle.std.proofs.Common.{ap, refl, rules}
 use Rattle.store_api.specs.Step.{step_of, rooms, find_room}
-use Rattle.store_folder.specs.Places.{file_of}
-use Rattle.store_folder.proofs.Ending.{key_of, ends_step, rooms_told, room_found}
-use Rattle.store_folder.proofs.disk.Disk.perform.Goals as goal
-use Rattle.store_folder.proofs.disk.Disk.perform.Goals.{in-Length, in-Length-2, in-Length-3, in-Length-4, in-Length-5}
+use Rattle.store_folder.proofs.Ending.{ends_step, rooms_told, room_found}
+use Rattle.store_folder.proofs.disk.Disk.act_on_names.Goals as goal
 
 pub returns-in-Rooms : goal.returns-in-Rooms
 returns-in-Rooms g c = record {
@@ -38,14 +36,3 @@ returns-in-Remove g c = record { ends = ends_step g.C.Calls.log c.args.self.now 
 
 pub returns-in-Replace : goal.returns-in-Replace
 returns-in-Replace g c = record { ends = ends_step g.C.Calls.log c.args.self.now _ _ _ _ (ap step_of c.in-Replace.is) c.replace.ensures.ends }
-
-pub returns-in-Length : goal.returns-in-Length
-returns-in-Length g c =
-    let its : file_of (step_of c.args.step.now) ≡ Some (key_of c.in-Length-1.room c.in-Length-1.folder c.in-Length-1.file) = elim c.in-Length-1.branch [
-      | in-Length w ↦ search (rules, w.in-Length.is, w.room-is, w.folder-is, w.file-is)
-      | in-Length-2 w ↦ search (rules, w.in-Length.is, w.room-is, w.folder-is, w.file-is)
-      | in-Length-3 w ↦ search (rules, w.in-Length.is, w.room-is, w.folder-is, w.file-is)
-      | in-Length-4 w ↦ search (rules, w.in-Length.is, w.room-is, w.folder-is, w.file-is)
-      | in-Length-5 w ↦ search (rules, w.in-Length.is, w.room-is, w.folder-is, w.file-is)
-    ] in
-    record { ends = c.act_at.ensures.ends its }

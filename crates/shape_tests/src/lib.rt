@@ -1,6 +1,0 @@
-//! Tests of the shape of rooms: one sound container beside its room of marks, and changes that each make one complaint
-//! right.
-#![tactic(auto)]
-
-#[cfg(test)]
-mod rows;
