@@ -27,17 +27,14 @@ extern char **environ;
 enum status { MADE = 0, REFUSED = 1, NO_REQUEST = 2, NO_MEMORY = 3, FAULT = 4, DAMAGED = 7 };
 
 /* PIPE: bytes of a pipe, where the system allows so many. LENT: from so many bytes on a request's bytes aren't
- * copied into the pipe. LONG: from so many on their head goes alone. LISTENED: nanoseconds in which a thread looks for an answer before it sleeps.
- * MISSED: for so many answers it leaves that out at most. TAKEN_UP: milliseconds, long behind the reading of a name that announces a process, in which
- * an engine opens that process's pipes. DYING: milliseconds in which an engine that is killed closes all of its own. WAIT: seconds in which an engine
+ * copied into the pipe. LONG: from so many on their head goes alone. TAKEN_UP: milliseconds, long behind the reading of a name that announces a
+ * process, in which an engine opens that process's pipes. DYING: milliseconds in which an engine that is killed closes all of its own. WAIT: seconds in which an engine
  * may begin, where PLFS_WAIT says nothing else. STEP: milliseconds between two looks whether it did. */
 enum {
     ANSWER = 32,
     PIPE = 1 << 20,
     LENT = 1 << 15,
     LONG = 1 << 18,
-    LISTENED = 100000,
-    MISSED = 64,
     TAKEN_UP = 1000,
     DYING = 100,
     WAIT = 5,
@@ -102,27 +99,6 @@ static int send_all(int fd, struct iovec parts[2], enum lent lent) {
     }
     pthread_sigmask(SIG_SETMASK, &before, NULL);
     return failed;
-}
-
-static uint64_t now(void) {
-    struct timespec t;
-    clock_gettime(CLOCK_MONOTONIC, &t);
-    return (uint64_t)t.tv_sec * 1000000000 + (uint64_t)t.tv_nsec;
-}
-
-/* Looks for an answer a while. A thread that sleeps has to be woken by the engine, which makes no request meanwhile.
- * Where no answer comes so soon, the next ones aren't looked for. Processes that share an engine would take the processors from each other. */
-static void listen_for_answer(struct plfs_engine *engine) {
-    struct pollfd end = {.fd = engine->from, .events = POLLIN};
-    if (engine->process == 0 || engine->begin < engine->end || engine->unheard++ < engine->missed) return;
-    engine->unheard = 0;
-    for (uint64_t until = now() + LISTENED; now() < until;) {
-        if (poll(&end, 1, 0)) {
-            engine->missed = 0;
-            return;
-        }
-    }
-    engine->missed = engine->missed < MISSED / 2 ? 2 * engine->missed + 1 : MISSED;
 }
 
 /* Takes the next n bytes of answers: those that were read ahead first. */
@@ -252,7 +228,6 @@ static int take_answer(struct plfs_engine *engine, const struct plfs_waiting *wa
     unsigned char answer[ANSWER];
     int kept_out = engine->door >= 0 ? wait_in(engine) : 0;
     if (kept_out) return kept_out;
-    listen_for_answer(engine);
     if (take_all(engine, answer, ANSWER)) return PLFS_GONE;
     uint64_t status = get(answer + 8), len = get(answer + 24);
     told->value = get(answer + 16);

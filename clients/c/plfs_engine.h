@@ -37,7 +37,6 @@ struct plfs_engine {
     int from; /* what follows is for the thread that takes answers */
     int door; /* while this process is not let in: the pipe on which it announced itself, else -1 */
     int own;  /* meanwhile its own reading end of its requests, without which their opening would wait, else -1 */
-    unsigned missed, unheard; /* for how many answers none is looked for before its thread sleeps, and for how many it wasn't */
     size_t begin, end; /* where in ahead those bytes are that were read and not taken */
     unsigned char ahead[PLFS_AHEAD];
 
