@@ -117,3 +117,27 @@ def an_engine_whose_answers_nobody_takes_ends_while_its_input_is_open(trial):
             pass
         has_no_dead(trial, "f", root)
         started.stderr.close()
+
+
+def table_of(process):
+    """How many descriptors the system's table of this process has room for."""
+    with open(f"/proc/{process.pid}/status", encoding="utf8") as status:
+        return next(int(line.split()[1]) for line in status if line.startswith("FDSize:"))
+
+
+@check
+def room_for_descriptors_is_made_before_threads_start(trial):
+    """As many as the engine may have, up to 1024. With few it serves all the same."""
+    for most, least in ((1024, 1024), (600, 1024), (40, 0)):
+        root = trial.folder / f"room{most}"
+        root.mkdir()
+        limit = lambda most=most: resource.setrlimit(resource.RLIMIT_NOFILE, (most, most))
+        started = subprocess.Popen([engine(trial), root], stdin=subprocess.PIPE, stdout=subprocess.PIPE, stderr=subprocess.PIPE, preexec_fn=limit)
+        started.stdin.write(frame(model.OPEN, 0, 1, payload=b"f"))
+        started.stdin.flush()
+        answer = started.stdout.read(ANSWER.size)
+        room = table_of(started)
+        out, err = started.communicate(timeout=SECONDS)
+        same("the end", (started.returncode, out, err), (0, b"", b""))
+        same("the answer", [found[:2] for found in answers_in(answer)], [(1, 0)])
+        true(f"with {most} descriptors the table has room for {room}", room >= least)

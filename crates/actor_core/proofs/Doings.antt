@@ -29,7 +29,7 @@ use Rattle.actor_core.specs.Opened.{reader_refreshed}
 use Rattle.actor_core.specs.Telling.{if_asked}
 use Rattle.actor_core.specs.Purposes.{if_listed_for, ended_for}
 use Rattle.actor_core.specs.Naming.{names_standing}
-use Rattle.gather_flow.specs.Gathering.{gather_rest}
+use Rattle.gather_flow.specs.Gathering.{gather_standing, gather_rest}
 use Rattle.actor_core.specs.Work.{Work, finishes}
 use Rattle.actor_core.specs.Progress.{going, IsAsked, with_reply}
 use Rattle.actor_core.specs.Standings.{busy, ready_of, asked_of, doing_ready, doing_asked, doing_left, AwaitsReply}
@@ -43,15 +43,15 @@ has_call_out number kept stop (Writing flow at len) is_asked = awaited number (r
 has_call_out number kept stop (Syncing flow) is_asked = awaited number (rest_of (sync_standing flow)) stop (λ left out. finishes (synced kept out)) (finishes (stopped kept)) is_asked
 has_call_out number kept stop (Closing flow) is_asked = awaited number (rest_of (close_standing flow)) stop (λ left out. finishes (closed kept out)) (finishes (stopped kept)) is_asked
 has_call_out number kept stop (Listing flow purpose) is_asked = awaited number (rest_of (list_standing flow)) stop (if_listed_for purpose kept) (finishes (stopped kept)) is_asked
-has_call_out number kept stop (Gathering flow purpose) is_asked = awaited number (gather_rest flow) stop (λ left result. finishes (ended_for purpose kept result)) (finishes (stopped kept)) is_asked
+has_call_out number kept stop (Gathering flow purpose) is_asked = awaited number (gather_rest flow.value) stop (λ left result. finishes (ended_for purpose kept result)) (finishes (stopped kept)) is_asked
 has_call_out number kept stop (Reading flow at) is_asked = awaited number (rest_of (read_standing flow)) stop (λ left result. finishes (read_from kept at result)) (finishes (stopped kept)) is_asked
 has_call_out number kept stop (Verifying flow at content) is_asked = awaited number (rest_of (read_standing flow)) stop (λ left result. finishes (verified kept at content result)) (finishes (stopped kept)) is_asked
 has_call_out number kept stop (Telling flow) is_asked = awaited number (rest_of (attr_standing flow)) stop (if_asked kept) (finishes (stopped kept)) is_asked
 has_call_out number kept stop (Truncating flow) is_asked = awaited number (rest_of (truncate_standing flow)) stop (λ left result. finishes (truncated kept result)) (finishes (stopped kept)) is_asked
-has_call_out number kept stop (Flattening flow) is_asked = awaited number (rest_of (flatten_standing flow)) stop (λ left result. finishes (flattened kept result)) (finishes (stopped kept)) is_asked
+has_call_out number kept stop (Flattening flow) is_asked = awaited number (rest_of (flatten_standing flow.value)) stop (λ left result. finishes (flattened kept result)) (finishes (stopped kept)) is_asked
 has_call_out number kept stop (Renaming flow) is_asked = awaited number (rest_of (rename_standing flow)) stop (λ left result. finishes (renamed kept result)) (finishes (stopped kept)) is_asked
 has_call_out number kept stop (Recovering flow) is_asked = awaited number (rest_of (recover_standing flow)) stop (λ left result. finishes (recovered kept result)) (finishes (stopped kept)) is_asked
-has_call_out number kept stop (Refreshing flow) is_asked = awaited number (rest_of (refresh_standing flow)) stop (λ left result. finishes (reader_refreshed kept result)) (finishes (stopped kept)) is_asked
+has_call_out number kept stop (Refreshing flow) is_asked = awaited number (rest_of (refresh_standing flow.value)) stop (λ left result. finishes (reader_refreshed kept result)) (finishes (stopped kept)) is_asked
 has_call_out number kept stop (Naming flow) is_asked = awaited number (rest_of (names_standing flow)) stop (λ left result. finishes (names_listed kept result)) (finishes (stopped kept)) is_asked
 
 -- a statement ends where its actor stops within its call
@@ -64,15 +64,15 @@ stops_there number kept stop (Writing flow at len) reply is_asked due = stops_so
 stops_there number kept stop (Syncing flow) reply is_asked due = stops_so number (rest_of (sync_standing flow)) stop (λ left out. finishes (synced kept out)) (finishes (stopped kept)) reply is_asked due
 stops_there number kept stop (Closing flow) reply is_asked due = stops_so number (rest_of (close_standing flow)) stop (λ left out. finishes (closed kept out)) (finishes (stopped kept)) reply is_asked due
 stops_there number kept stop (Listing flow purpose) reply is_asked due = stops_so number (rest_of (list_standing flow)) stop (if_listed_for purpose kept) (finishes (stopped kept)) reply is_asked due
-stops_there number kept stop (Gathering flow purpose) reply is_asked due = stops_so number (gather_rest flow) stop (λ left result. finishes (ended_for purpose kept result)) (finishes (stopped kept)) reply is_asked due
+stops_there number kept stop (Gathering flow purpose) reply is_asked due = stops_so number (gather_rest flow.value) stop (λ left result. finishes (ended_for purpose kept result)) (finishes (stopped kept)) reply is_asked due
 stops_there number kept stop (Reading flow at) reply is_asked due = stops_so number (rest_of (read_standing flow)) stop (λ left result. finishes (read_from kept at result)) (finishes (stopped kept)) reply is_asked due
 stops_there number kept stop (Verifying flow at content) reply is_asked due = stops_so number (rest_of (read_standing flow)) stop (λ left result. finishes (verified kept at content result)) (finishes (stopped kept)) reply is_asked due
 stops_there number kept stop (Telling flow) reply is_asked due = stops_so number (rest_of (attr_standing flow)) stop (if_asked kept) (finishes (stopped kept)) reply is_asked due
 stops_there number kept stop (Truncating flow) reply is_asked due = stops_so number (rest_of (truncate_standing flow)) stop (λ left result. finishes (truncated kept result)) (finishes (stopped kept)) reply is_asked due
-stops_there number kept stop (Flattening flow) reply is_asked due = stops_so number (rest_of (flatten_standing flow)) stop (λ left result. finishes (flattened kept result)) (finishes (stopped kept)) reply is_asked due
+stops_there number kept stop (Flattening flow) reply is_asked due = stops_so number (rest_of (flatten_standing flow.value)) stop (λ left result. finishes (flattened kept result)) (finishes (stopped kept)) reply is_asked due
 stops_there number kept stop (Renaming flow) reply is_asked due = stops_so number (rest_of (rename_standing flow)) stop (λ left result. finishes (renamed kept result)) (finishes (stopped kept)) reply is_asked due
 stops_there number kept stop (Recovering flow) reply is_asked due = stops_so number (rest_of (recover_standing flow)) stop (λ left result. finishes (recovered kept result)) (finishes (stopped kept)) reply is_asked due
-stops_there number kept stop (Refreshing flow) reply is_asked due = stops_so number (rest_of (refresh_standing flow)) stop (λ left result. finishes (reader_refreshed kept result)) (finishes (stopped kept)) reply is_asked due
+stops_there number kept stop (Refreshing flow) reply is_asked due = stops_so number (rest_of (refresh_standing flow.value)) stop (λ left result. finishes (reader_refreshed kept result)) (finishes (stopped kept)) reply is_asked due
 stops_there number kept stop (Naming flow) reply is_asked due = stops_so number (rest_of (names_standing flow)) stop (λ left result. finishes (names_listed kept result)) (finishes (stopped kept)) reply is_asked due
 
 -- and it may still make a call
@@ -95,7 +95,10 @@ some_left (Refreshing flow) is_out = omega arith
 some_left (Naming flow) is_out = omega arith
 
 -- a statement that was taken for one without a call, and has one out
-gather_out : (number : ℕ) (kept : Kept) (stop : Option Stop) (flow : Gathers) (purpose : Purpose) → IsAsked (busy number (doing_ready kept stop (Gathering flow purpose))) → busy number (doing_ready kept stop (Gathering flow purpose)) ≡ busy number (doing_asked kept stop (Gathering flow purpose))
+gather_out : (number : ℕ) (kept : Kept) (stop : Option Stop) (flow : Gathers) (purpose : Purpose)
+    → IsAsked (busy number (ready_of (gather_standing flow) stop (λ left result. finishes (ended_for purpose kept result)) (finishes (stopped kept))))
+    → busy number (ready_of (gather_standing flow) stop (λ left result. finishes (ended_for purpose kept result)) (finishes (stopped kept)))
+    ≡ busy number (asked_of (gather_rest flow) stop (λ left result. finishes (ended_for purpose kept result)) (finishes (stopped kept)))
 gather_out number kept stop (Shares flow listed workers worker sofar) purpose is_asked = absurd is_asked
 gather_out number kept stop (Truncs flow listed shares) purpose is_asked = absurd is_asked
 gather_out number kept stop (Ended result) purpose is_asked = absurd is_asked
@@ -111,12 +114,12 @@ same_out number kept stop (Reading flow at) is_asked = out_same number (read_sta
 same_out number kept stop (Verifying flow at content) is_asked = out_same number (read_standing flow) stop (λ left result. finishes (verified kept at content result)) (finishes (stopped kept)) is_asked
 same_out number kept stop (Telling flow) is_asked = out_same number (attr_standing flow) stop (if_asked kept) (finishes (stopped kept)) is_asked
 same_out number kept stop (Truncating flow) is_asked = out_same number (truncate_standing flow) stop (λ left result. finishes (truncated kept result)) (finishes (stopped kept)) is_asked
-same_out number kept stop (Flattening flow) is_asked = out_same number (flatten_standing flow) stop (λ left result. finishes (flattened kept result)) (finishes (stopped kept)) is_asked
+same_out number kept stop (Flattening flow) is_asked = out_same number (flatten_standing flow.value) stop (λ left result. finishes (flattened kept result)) (finishes (stopped kept)) is_asked
 same_out number kept stop (Renaming flow) is_asked = out_same number (rename_standing flow) stop (λ left result. finishes (renamed kept result)) (finishes (stopped kept)) is_asked
 same_out number kept stop (Recovering flow) is_asked = out_same number (recover_standing flow) stop (λ left result. finishes (recovered kept result)) (finishes (stopped kept)) is_asked
-same_out number kept stop (Refreshing flow) is_asked = out_same number (refresh_standing flow) stop (λ left result. finishes (reader_refreshed kept result)) (finishes (stopped kept)) is_asked
+same_out number kept stop (Refreshing flow) is_asked = out_same number (refresh_standing flow.value) stop (λ left result. finishes (reader_refreshed kept result)) (finishes (stopped kept)) is_asked
 same_out number kept stop (Naming flow) is_asked = out_same number (names_standing flow) stop (λ left result. finishes (names_listed kept result)) (finishes (stopped kept)) is_asked
-same_out number kept stop (Gathering flow purpose) is_asked = gather_out number kept stop flow purpose is_asked
+same_out number kept stop (Gathering flow purpose) is_asked = gather_out number kept stop flow.value purpose is_asked
 
 -- a bound and one more
 pub more_left : {A E : Type 0} (result : Result A E) (calls bound : ℕ) → OnOk result (calls < bound) → OnOk result (calls < bound + 1)

@@ -1,5 +1,5 @@
 -- How a container that is gathered goes on.
-use Rattle.std.proofs.Common.{◌≡◌, ℕ, [], Option, Some, None, Result, Ok, Err, refl, sym, ap, ◌∙◌}
+use Rattle.std.proofs.Common.{◌≡◌, ℕ, [], Option, Some, None, Result, Ok, Err, refl, sym, ap, ◌∙◌, subst}
 use Rattle.std.specs.Prelude.{option_map}
 use Rattle.std.proofs.lemmas.Option.{none-some}
 use Rattle.mount_model.specs.Program.{done, ask}
@@ -11,9 +11,9 @@ use Rattle.index_reader.specs.declared.listing.Listing.{Listing}
 use Rattle.actor_core.specs.declared.kept.Stop.{Stop}
 use Rattle.actor_core.specs.declared.kept.Kept.{Kept}
 use Rattle.gather_flow.specs.declared.all_read.AllRead.{AllRead}
-use Rattle.actor_core.specs.declared.doing.Doing.TheVariants as doing
 use Rattle.gather_flow.specs.declared.gathering.Gathering.{Gathering}
 use Rattle.gather_flow.specs.declared.gathering.Gathering.TheVariants.{Shares, Truncs, Ended}
+use Rattle.gather_flow.specs.declared.gathering.Called.{Called}
 use Rattle.gather_flow.specs.declared.gathering.Called.TheVariants as called
 use Rattle.actor_core.specs.declared.purpose.Purpose.{Purpose}
 use Rattle.actor_core.specs.declared.purpose.Purpose.TheVariants.{Opens, Tells}
@@ -27,19 +27,36 @@ use Rattle.actor_core.specs.Telling.{tells_by}
 use Rattle.actor_core.specs.Purposes.{workers_of, if_listed_for, ended_for}
 use Rattle.gather_flow.specs.Shares.{by_itself, programs_from}
 use Rattle.actor_core.specs.Progress.{Progress, going, told, IsReady, ask_of, given, line_of}
-use Rattle.actor_core.specs.Standings.{ready_of, asked_of, busy, doing_ready, doing_asked}
+use Rattle.actor_core.specs.Standings.{Underway, ready_of, asked_of, busy}
 use Rattle.gather_flow.specs.Gathering.{shares_from, gather_standing, gather_rest}
 use Rattle.gather_flow.specs.Called.{IsCalled}
 use Rattle.actor_core.proofs.Carrying.{asks_so, ends_so}
 use Rattle.actor_core.proofs.Making.{made_alone}
 
-gather_ready : (number : ℕ) (kept : Kept) (stop : Option Stop) (g : Gathering) (purpose : Purpose) → IsReady (busy number (doing_ready kept stop (doing.Gathering g purpose)))
+-- a container that is gathered for this, before its next call
+abbrev gathers : Kept → Option Stop → Gathering → Purpose → Underway
+gathers kept stop g purpose = ready_of (gather_standing g) stop (λ left result. finishes (ended_for purpose kept result)) (finishes (stopped kept))
+
+-- the same, where its call is out
+abbrev gathers_out : Kept → Option Stop → Gathering → Purpose → Underway
+gathers_out kept stop g purpose = asked_of (gather_rest g) stop (λ left result. finishes (ended_for purpose kept result)) (finishes (stopped kept))
+
+-- a machine that was taken out of its box asks what it asks, and goes on in one
+pub asks_boxed : (was taken : Gathering) (said : Called) (call : Call) (asking new : Gathering)
+    → taken ≡ was → said ≡ called.Asks call asking → IsCalled taken said → new ≡ asking → IsCalled was (called.Asks call new)
+asks_boxed was taken said call asking new same is holds boxed =
+    let P : Gathering → Type 0 = λ g. IsCalled g said in
+    let Q : Called → Type 0 = λ t. IsCalled was t in
+    let R : Gathering → Type 0 = λ n. IsCalled was (called.Asks call n) in
+    subst R (sym boxed) (subst Q is (subst P same holds))
+
+gather_ready : (number : ℕ) (kept : Kept) (stop : Option Stop) (g : Gathering) (purpose : Purpose) → IsReady (busy number (gathers kept stop g purpose))
 gather_ready number kept stop (Shares flow listed workers worker sofar) purpose = tt
 gather_ready number kept stop (Truncs flow listed shares) purpose = tt
 gather_ready number kept stop (Ended result) purpose = tt
 
 pub gather_asks : (number : ℕ) (kept : Kept) (stop : Option Stop) (g new : Gathering) (purpose : Purpose) (call : Call) → IsCalled g (called.Asks call new)
-    → Some (stoppable stop call) ≡ ask_of (busy number (doing_ready kept stop (doing.Gathering g purpose)))
+    → Some (stoppable stop call) ≡ ask_of (busy number (gathers kept stop g purpose))
 gather_asks number kept stop g new purpose call is =
     asks_so number (gather_standing g) (gather_standing g) stop (λ left result. finishes (ended_for purpose kept result)) (finishes (stopped kept)) (stoppable stop call)
     (gather_ready number kept stop g purpose) (ap (option_map (stoppable stop)) is.0)
@@ -52,22 +69,22 @@ rest_out number (ready (ask question k)) rest stop next halted call is_ready som
 rest_out number (out k) rest stop next halted call is_ready some same = absurd is_ready
 
 pub gather_out : (number : ℕ) (kept : Kept) (stop : Option Stop) (g new : Gathering) (purpose : Purpose) (call : Call) → IsCalled g (called.Asks call new)
-    → busy number (doing_asked kept stop (doing.Gathering new purpose)) ≡ given (busy number (doing_ready kept stop (doing.Gathering g purpose)))
+    → busy number (gathers_out kept stop new purpose) ≡ given (busy number (gathers kept stop g purpose))
 gather_out number kept stop g new purpose call is =
     rest_out number (gather_standing g) (gather_rest new) stop (λ left result. finishes (ended_for purpose kept result)) (finishes (stopped kept)) call
     (gather_ready number kept stop g purpose) is.0 is.1
 
 -- the end of all
 gather_ends : (number : ℕ) (kept : Kept) (stop : Option Stop) (g : Gathering) (purpose : Purpose) (made : Result AllRead Stuck) → gather_standing g ≡ ready (done made)
-    → busy number (doing_ready kept stop (doing.Gathering g purpose)) ≡ going number (finishes (ended_for purpose kept made))
+    → busy number (gathers kept stop g purpose) ≡ going number (finishes (ended_for purpose kept made))
 gather_ends number kept stop g purpose made is = ap (λ s. busy number (ready_of s stop (λ left result. finishes (ended_for purpose kept result)) (finishes (stopped kept)))) is
 
 pub gather_no_ask : (number : ℕ) (kept : Kept) (stop : Option Stop) (g : Gathering) (purpose : Purpose) (made : Result AllRead Stuck) → IsCalled g (called.Over made)
-    → None ≡ ask_of (busy number (doing_ready kept stop (doing.Gathering g purpose)))
+    → None ≡ ask_of (busy number (gathers kept stop g purpose))
 gather_no_ask number kept stop g purpose made is = sym (ap (λ p. ask_of p) (gather_ends number kept stop g purpose made is))
 
 pub gather_given : (number : ℕ) (kept : Kept) (stop : Option Stop) (g : Gathering) (purpose : Purpose) (made : Result AllRead Stuck) → IsCalled g (called.Over made)
-    → given (going number (finishes (ended_for purpose kept made))) ≡ given (busy number (doing_ready kept stop (doing.Gathering g purpose)))
+    → given (going number (finishes (ended_for purpose kept made))) ≡ given (busy number (gathers kept stop g purpose))
 gather_given number kept stop g purpose made is = sym (ap (λ p. given p) (gather_ends number kept stop g purpose made is))
 
 -- a trouble is the outcome, whatever the container was gathered for
@@ -76,7 +93,7 @@ stuck_for kept (Opens workers) because = refl
 stuck_for kept Tells because = refl
 
 pub gather_stuck : (number : ℕ) (kept : Kept) (stop : Option Stop) (g : Gathering) (purpose : Purpose) (because : Stuck) → IsCalled g (called.Over (Err because))
-    → told (line_of number (ending (stuck_outcome because) kept)) kept ≡ given (busy number (doing_ready kept stop (doing.Gathering g purpose)))
+    → told (line_of number (ending (stuck_outcome because) kept)) kept ≡ given (busy number (gathers kept stop g purpose))
 gather_stuck number kept stop g purpose because is =
     sym (ap (λ e. given (going number (finishes e))) (stuck_for kept purpose because)) ∙ gather_given number kept stop g purpose (Err because) is
 
@@ -107,7 +124,7 @@ reads_alone Tells number kept stop listing =
     ap (going number) (made_alone attr_of listing (programs_from 1 listing 0) stop (λ left result. finishes (told_of kept result)) (finishes (stopped kept)))
 
 gathers_alone : (purpose : Purpose) (number : ℕ) (kept : Kept) (stop : Option Stop) (listing : Listing) (g : Gathering) → gather_standing g ≡ ready (shares_from (workers_of purpose) listing 0 [])
-    → busy number (doing_ready kept stop (doing.Gathering g purpose)) ≡ alone purpose number kept stop listing
+    → busy number (gathers kept stop g purpose) ≡ alone purpose number kept stop listing
 gathers_alone purpose number kept stop listing g is =
     ap (λ s. busy number (ready_of s stop (λ left result. finishes (ended_for purpose kept result)) (finishes (stopped kept)))) is ∙ reads_alone purpose number kept stop listing
 
@@ -120,14 +137,14 @@ module _ (number : ℕ) (kept : Kept) (stop : Option Stop) (purpose : Purpose) (
 
   pub listed_asks : (listing : Listing) (g : Gathering) → IsReady (busy number (ready_of old stop (if_listed_for purpose kept) (finishes (stopped kept)))) → None ≡ option_map (stoppable stop) (next_of old)
       → rest_of new ≡ rest_of old → rest_of new ≡ over (Ok listing) → gather_standing g ≡ ready (shares_from (workers_of purpose) listing 0 [])
-      → ask_of (busy number (doing_ready kept stop (doing.Gathering g purpose))) ≡ ask_of (busy number (ready_of old stop (if_listed_for purpose kept) (finishes (stopped kept))))
+      → ask_of (busy number (gathers kept stop g purpose)) ≡ ask_of (busy number (ready_of old stop (if_listed_for purpose kept) (finishes (stopped kept))))
   listed_asks listing g is_ready none same is begins =
       ap (λ p. ask_of p) (gathers_alone purpose number kept stop listing g begins) ∙ alone_asks purpose number kept stop listing
       ∙ sym (ap (λ p. ask_of p) (listed_so (Ok listing) is_ready none same is))
 
   pub listed_given : (listing : Listing) (g : Gathering) → IsReady (busy number (ready_of old stop (if_listed_for purpose kept) (finishes (stopped kept)))) → None ≡ option_map (stoppable stop) (next_of old)
       → rest_of new ≡ rest_of old → rest_of new ≡ over (Ok listing) → gather_standing g ≡ ready (shares_from (workers_of purpose) listing 0 [])
-      → given (busy number (doing_ready kept stop (doing.Gathering g purpose))) ≡ given (busy number (ready_of old stop (if_listed_for purpose kept) (finishes (stopped kept))))
+      → given (busy number (gathers kept stop g purpose)) ≡ given (busy number (ready_of old stop (if_listed_for purpose kept) (finishes (stopped kept))))
   listed_given listing g is_ready none same is begins =
       ap (λ p. given p) (gathers_alone purpose number kept stop listing g begins) ∙ alone_given purpose number kept stop listing
       ∙ sym (ap (λ p. given p) (listed_so (Ok listing) is_ready none same is))

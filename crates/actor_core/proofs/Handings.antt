@@ -98,15 +98,15 @@ module _ (number : ℕ) (kept : Kept) (stop : Option Stop) where
   no_shares (Syncing flow) other = none_ready number (sync_standing flow) stop (λ left made. finishes (synced kept made)) (finishes (stopped kept)) (λ result. refl)
   no_shares (Closing flow) other = none_ready number (close_standing flow) stop (λ left made. finishes (closed kept made)) (finishes (stopped kept)) (λ result. refl)
   no_shares (Listing flow purpose) other = absurd (other flow purpose refl)
-  no_shares (Gathering flow purpose) other = none_ready number (gather_standing flow) stop (λ left result. finishes (ended_for purpose kept result)) (finishes (stopped kept)) (λ result. refl)
+  no_shares (Gathering flow purpose) other = none_ready number (gather_standing flow.value) stop (λ left result. finishes (ended_for purpose kept result)) (finishes (stopped kept)) (λ result. refl)
   no_shares (Reading flow at) other = none_ready number (read_standing flow) stop (λ left result. finishes (read_from kept at result)) (finishes (stopped kept)) (λ result. refl)
   no_shares (Verifying flow at content) other = none_ready number (read_standing flow) stop (λ left result. finishes (verified kept at content result)) (finishes (stopped kept)) (λ result. refl)
   no_shares (Telling flow) other = none_ready number (attr_standing flow) stop (if_asked kept) (finishes (stopped kept)) none_told
   no_shares (Truncating flow) other = none_ready number (truncate_standing flow) stop (λ left result. finishes (truncated kept result)) (finishes (stopped kept)) (λ result. refl)
-  no_shares (Flattening flow) other = none_ready number (flatten_standing flow) stop (λ left result. finishes (flattened kept result)) (finishes (stopped kept)) (λ result. refl)
+  no_shares (Flattening flow) other = none_ready number (flatten_standing flow.value) stop (λ left result. finishes (flattened kept result)) (finishes (stopped kept)) (λ result. refl)
   no_shares (Renaming flow) other = none_ready number (rename_standing flow) stop (λ left result. finishes (renamed kept result)) (finishes (stopped kept)) (λ result. refl)
   no_shares (Recovering flow) other = none_ready number (recover_standing flow) stop (λ left result. finishes (recovered kept result)) (finishes (stopped kept)) (λ result. refl)
-  no_shares (Refreshing flow) other = none_ready number (refresh_standing flow) stop (λ left result. finishes (reader_refreshed kept result)) (finishes (stopped kept)) (λ result. refl)
+  no_shares (Refreshing flow) other = none_ready number (refresh_standing flow.value) stop (λ left result. finishes (reader_refreshed kept result)) (finishes (stopped kept)) (λ result. refl)
   no_shares (Naming flow) other = none_ready number (names_standing flow) stop (λ left result. finishes (names_listed kept result)) (finishes (stopped kept)) (λ result. refl)
 
   none_asked : (doing : Doing) → handing_of (busy number (doing_asked kept stop doing)) ≡ None
@@ -116,15 +116,15 @@ module _ (number : ℕ) (kept : Kept) (stop : Option Stop) where
   none_asked (Syncing flow) = none_out number (rest_of (sync_standing flow)) stop (λ left made. finishes (synced kept made)) (finishes (stopped kept))
   none_asked (Closing flow) = none_out number (rest_of (close_standing flow)) stop (λ left made. finishes (closed kept made)) (finishes (stopped kept))
   none_asked (Listing flow purpose) = none_out number (rest_of (list_standing flow)) stop (if_listed_for purpose kept) (finishes (stopped kept))
-  none_asked (Gathering flow purpose) = none_out number (gather_rest flow) stop (λ left result. finishes (ended_for purpose kept result)) (finishes (stopped kept))
+  none_asked (Gathering flow purpose) = none_out number (gather_rest flow.value) stop (λ left result. finishes (ended_for purpose kept result)) (finishes (stopped kept))
   none_asked (Reading flow at) = none_out number (rest_of (read_standing flow)) stop (λ left result. finishes (read_from kept at result)) (finishes (stopped kept))
   none_asked (Verifying flow at content) = none_out number (rest_of (read_standing flow)) stop (λ left result. finishes (verified kept at content result)) (finishes (stopped kept))
   none_asked (Telling flow) = none_out number (rest_of (attr_standing flow)) stop (if_asked kept) (finishes (stopped kept))
   none_asked (Truncating flow) = none_out number (rest_of (truncate_standing flow)) stop (λ left result. finishes (truncated kept result)) (finishes (stopped kept))
-  none_asked (Flattening flow) = none_out number (rest_of (flatten_standing flow)) stop (λ left result. finishes (flattened kept result)) (finishes (stopped kept))
+  none_asked (Flattening flow) = none_out number (rest_of (flatten_standing flow.value)) stop (λ left result. finishes (flattened kept result)) (finishes (stopped kept))
   none_asked (Renaming flow) = none_out number (rest_of (rename_standing flow)) stop (λ left result. finishes (renamed kept result)) (finishes (stopped kept))
   none_asked (Recovering flow) = none_out number (rest_of (recover_standing flow)) stop (λ left result. finishes (recovered kept result)) (finishes (stopped kept))
-  none_asked (Refreshing flow) = none_out number (rest_of (refresh_standing flow)) stop (λ left result. finishes (reader_refreshed kept result)) (finishes (stopped kept))
+  none_asked (Refreshing flow) = none_out number (rest_of (refresh_standing flow.value)) stop (λ left result. finishes (reader_refreshed kept result)) (finishes (stopped kept))
   none_asked (Naming flow) = none_out number (rest_of (names_standing flow)) stop (λ left result. finishes (names_listed kept result)) (finishes (stopped kept))
 
   none_greeting : (work : Underway) → handing_of (greeting number work) ≡ None
@@ -241,7 +241,7 @@ module _ (number : ℕ) (kept : Kept) (stop : Option Stop) (listing : Listed) (r
   opens_same told share joined = λ i. followed_by (trunc_program listing.room) (on_ok (λ truncs. done (Ok (joined_reader listing told share truncs joined i))))
 
   pub given_share : (share : Share) (g : Gathers) → gather_standing g ≡ ready (reads_truncs listing (share ∷ [])) → IsOutcomeOf results (Ok share)
-      → busy number (doing_ready kept stop (Gathering g (Opens 1))) ≡ going number (with_shares kept stop listing results)
+      → busy number (ready_of (gather_standing g) stop (λ left result. finishes (ended_for (Opens 1) kept result)) (finishes (stopped kept))) ≡ going number (with_shares kept stop listing results)
   given_share share g stands outcome =
       ap (λ s. busy number (ready_of s stop (λ left result. finishes (ended_for (Opens 1) kept result)) (finishes (stopped kept)))) stands
       ∙ ap (going number) (made_behind reader_of listing (share ∷ []) stop (λ left result. finishes (reader_opened kept result)) (finishes (stopped kept)))

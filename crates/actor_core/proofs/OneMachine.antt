@@ -1,6 +1,7 @@
 -- How the one machine of a statement is asked for its next call, and comes to its end.
 use Rattle.std.proofs.Common.{◌≡◌, ℕ, Option, Some, None, Result, Ok, Err, refl, sym, ap, ◌∙◌, subst}
 use Rattle.std.specs.Prelude.{◌≢◌, option_map, IfOk, OnOk}
+use Rattle.std.specs.Global.{Box}
 use Rattle.std.proofs.lemmas.Option.{none-some}
 use Rattle.mount_model.specs.Program.{Program, done, ask}
 use Rattle.mount_model.specs.Standing.{Standing, ready, asked as out, Rest, over, next_of, rest_of, Awaits, IsOver}
@@ -25,7 +26,7 @@ use Rattle.actor_core.proofs.Carrying.{asks_so, is_out, same_result}
 
 -- a statement that is no other has one machine
 pub is_one : (doing : Doing) → ((outcome : Outcome) → doing ≢ Known outcome) → ((flow : OpenRead) (purpose : Purpose) → doing ≢ Listing flow purpose)
-    → ((flow : Gathers) (purpose : Purpose) → doing ≢ Gathering flow purpose) → ((flow : AttrFlow) → doing ≢ Telling flow) → IsOneMachine doing
+    → ((flow : Box Gathers) (purpose : Purpose) → doing ≢ Gathering flow purpose) → ((flow : AttrFlow) → doing ≢ Telling flow) → IsOneMachine doing
 is_one (Known outcome) not_known not_listing not_gathering not_telling = absurd (not_known outcome refl)
 is_one (Opening flow) not_known not_listing not_gathering not_telling = tt
 is_one (Writing flow at len) not_known not_listing not_gathering not_telling = tt
@@ -51,7 +52,7 @@ module _ {R : Type 0} where
   stands_over (out k) result is = let P : Rest Call Reply R → Type 0 = λ rest. Awaits rest in absurd (subst P is tt)
 
   -- and its result leads on
-  leads_on : (s : Standing Call Reply R) (stop : Option Stop) (next : Option Stop → R → Work) (halted : Work) (result : R) → rest_of s ≡ over result → ready_of s stop next halted ≡ goes (next stop result)
+  pub leads_on : (s : Standing Call Reply R) (stop : Option Stop) (next : Option Stop → R → Work) (halted : Work) (result : R) → rest_of s ≡ over result → ready_of s stop next halted ≡ goes (next stop result)
   leads_on s stop next halted result is = ap (λ standing. ready_of standing stop next halted) (stands_over s result is)
 
   over_still : (old new : Standing Call Reply R) → ((k : Reply → Program Call Reply R) → old ≢ out k) → None ≡ next_of old → rest_of new ≡ rest_of old → IsOver (rest_of new) × (new ≡ old)

@@ -1,5 +1,6 @@
 -- A statement at work, whose machine is asked and replied to where it is.
-use Rattle.std.proofs.Common.{◌≡◌, ◌<◌, ℕ, true, false, Option, None, sym, ap, ◌∙◌}
+use Rattle.std.proofs.Common.{◌≡◌, ◌<◌, ℕ, true, false, Option, Some, None, sym, ap, ◌∙◌, subst}
+use Rattle.std.specs.Prelude.{Bool, IfSome}
 use Rattle.mount_model.specs.declared.reply.Reply.{Reply}
 use Rattle.actor_core.specs.declared.kept.Stop.{Stop}
 use Rattle.actor_core.specs.declared.kept.Kept.{Kept}
@@ -7,7 +8,8 @@ use Rattle.actor_core.specs.declared.doing.Doing.{Doing}
 use Rattle.actor_core.specs.declared.actor.State.{State}
 use Rattle.actor_core.specs.declared.actor.State.TheVariants.{Working}
 use Rattle.actor_core.specs.Stopping.{is_due, one_nearer}
-use Rattle.actor_core.specs.Endings.{stopped}
+use Rattle.actor_core.specs.declared.machines.Written.{Written}
+use Rattle.actor_core.specs.Endings.{stopped, wrote}
 use Rattle.actor_core.specs.Work.{finishes}
 use Rattle.actor_core.specs.Progress.{IsReady, IsAsked, going, with_reply}
 use Rattle.actor_core.specs.Standings.{busy, doing_ready, doing_asked, state_progress, state_left}
@@ -53,3 +55,15 @@ module _ (number : ℕ) (kept : Kept) (stop : Option Stop) where
   ends_at (Working doing false) (Working after false) one is_ready holds = let made = holds number kept stop is_ready in (made.0, ap (busy number) made.1)
   ends_at (Working doing false) other one is_ready holds = absurd holds
   ends_at other new one is_ready holds = absurd one
+
+  -- a statement whose machine is at its end makes no call meanwhile
+  pub over_so : (state : State) (doing : Doing) (is_out : Bool) → state ≡ Working doing is_out → IsOneOver state → state_progress number kept stop state ≡ busy number (doing_ready kept stop doing)
+  over_so state doing true is ends = let P : State → Type 0 = λ s. IsOneOver s in absurd (subst P is ends)
+  over_so state doing false is ends = ap (state_progress number kept stop) is
+
+  pub written_at : (state : State) (doing : Doing) (written : Option Written)
+      → IfSome written (λ w. (n : ℕ) (k : Kept) (s : Option Stop) → busy n (doing_ready k s doing) ≡ going n (finishes (wrote k w.at w.len w.out)))
+      → state_progress number kept stop state ≡ busy number (doing_ready kept stop doing)
+      → IfSome written (λ w. state_progress number kept stop state ≡ going number (finishes (wrote kept w.at w.len w.out)))
+  written_at state doing None comes same = tt
+  written_at state doing (Some w) comes same = same ∙ comes number kept stop

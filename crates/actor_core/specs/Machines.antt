@@ -40,10 +40,10 @@ IsAtEnd (Closing flow) = IsOver (rest_of (close_standing flow))
 IsAtEnd (Reading flow at) = IsOver (rest_of (read_standing flow))
 IsAtEnd (Verifying flow at content) = IsOver (rest_of (read_standing flow))
 IsAtEnd (Truncating flow) = IsOver (rest_of (truncate_standing flow))
-IsAtEnd (Flattening flow) = IsOver (rest_of (flatten_standing flow))
+IsAtEnd (Flattening flow) = IsOver (rest_of (flatten_standing flow.value))
 IsAtEnd (Renaming flow) = IsOver (rest_of (rename_standing flow))
 IsAtEnd (Recovering flow) = IsOver (rest_of (recover_standing flow))
-IsAtEnd (Refreshing flow) = IsOver (rest_of (refresh_standing flow))
+IsAtEnd (Refreshing flow) = IsOver (rest_of (refresh_standing flow.value))
 IsAtEnd (Naming flow) = IsOver (rest_of (names_standing flow))
 IsAtEnd _ = ⊥
 

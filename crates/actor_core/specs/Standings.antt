@@ -48,15 +48,15 @@ AwaitsReply (Writing flow at len) = Awaits (rest_of (write_standing flow))
 AwaitsReply (Syncing flow) = Awaits (rest_of (sync_standing flow))
 AwaitsReply (Closing flow) = Awaits (rest_of (close_standing flow))
 AwaitsReply (Listing flow purpose) = Awaits (rest_of (list_standing flow))
-AwaitsReply (Gathering flow purpose) = Awaits (gather_rest flow)
+AwaitsReply (Gathering flow purpose) = Awaits (gather_rest flow.value)
 AwaitsReply (Reading flow at) = Awaits (rest_of (read_standing flow))
 AwaitsReply (Verifying flow at content) = Awaits (rest_of (read_standing flow))
 AwaitsReply (Telling flow) = Awaits (rest_of (attr_standing flow))
 AwaitsReply (Truncating flow) = Awaits (rest_of (truncate_standing flow))
-AwaitsReply (Flattening flow) = Awaits (rest_of (flatten_standing flow))
+AwaitsReply (Flattening flow) = Awaits (rest_of (flatten_standing flow.value))
 AwaitsReply (Renaming flow) = Awaits (rest_of (rename_standing flow))
 AwaitsReply (Recovering flow) = Awaits (rest_of (recover_standing flow))
-AwaitsReply (Refreshing flow) = Awaits (rest_of (refresh_standing flow))
+AwaitsReply (Refreshing flow) = Awaits (rest_of (refresh_standing flow.value))
 AwaitsReply (Naming flow) = Awaits (rest_of (names_standing flow))
 
 -- It goes on so, or so with the reply to a call that is out.
@@ -83,15 +83,15 @@ doing_ready kept stop (Writing flow at len) = ready_of (write_standing flow) sto
 doing_ready kept stop (Syncing flow) = ready_of (sync_standing flow) stop (λ left out. finishes (synced kept out)) (finishes (stopped kept))
 doing_ready kept stop (Closing flow) = ready_of (close_standing flow) stop (λ left out. finishes (closed kept out)) (finishes (stopped kept))
 doing_ready kept stop (Listing flow purpose) = ready_of (list_standing flow) stop (if_listed_for purpose kept) (finishes (stopped kept))
-doing_ready kept stop (Gathering flow purpose) = ready_of (gather_standing flow) stop (λ left result. finishes (ended_for purpose kept result)) (finishes (stopped kept))
+doing_ready kept stop (Gathering flow purpose) = ready_of (gather_standing flow.value) stop (λ left result. finishes (ended_for purpose kept result)) (finishes (stopped kept))
 doing_ready kept stop (Reading flow at) = ready_of (read_standing flow) stop (λ left result. finishes (read_from kept at result)) (finishes (stopped kept))
 doing_ready kept stop (Verifying flow at content) = ready_of (read_standing flow) stop (λ left result. finishes (verified kept at content result)) (finishes (stopped kept))
 doing_ready kept stop (Telling flow) = ready_of (attr_standing flow) stop (if_asked kept) (finishes (stopped kept))
 doing_ready kept stop (Truncating flow) = ready_of (truncate_standing flow) stop (λ left result. finishes (truncated kept result)) (finishes (stopped kept))
-doing_ready kept stop (Flattening flow) = ready_of (flatten_standing flow) stop (λ left result. finishes (flattened kept result)) (finishes (stopped kept))
+doing_ready kept stop (Flattening flow) = ready_of (flatten_standing flow.value) stop (λ left result. finishes (flattened kept result)) (finishes (stopped kept))
 doing_ready kept stop (Renaming flow) = ready_of (rename_standing flow) stop (λ left result. finishes (renamed kept result)) (finishes (stopped kept))
 doing_ready kept stop (Recovering flow) = ready_of (recover_standing flow) stop (λ left result. finishes (recovered kept result)) (finishes (stopped kept))
-doing_ready kept stop (Refreshing flow) = ready_of (refresh_standing flow) stop (λ left result. finishes (reader_refreshed kept result)) (finishes (stopped kept))
+doing_ready kept stop (Refreshing flow) = ready_of (refresh_standing flow.value) stop (λ left result. finishes (reader_refreshed kept result)) (finishes (stopped kept))
 doing_ready kept stop (Naming flow) = ready_of (names_standing flow) stop (λ left result. finishes (names_listed kept result)) (finishes (stopped kept))
 
 -- the same, where its call is out
@@ -102,15 +102,15 @@ doing_asked kept stop (Writing flow at len) = asked_of (rest_of (write_standing 
 doing_asked kept stop (Syncing flow) = asked_of (rest_of (sync_standing flow)) stop (λ left out. finishes (synced kept out)) (finishes (stopped kept))
 doing_asked kept stop (Closing flow) = asked_of (rest_of (close_standing flow)) stop (λ left out. finishes (closed kept out)) (finishes (stopped kept))
 doing_asked kept stop (Listing flow purpose) = asked_of (rest_of (list_standing flow)) stop (if_listed_for purpose kept) (finishes (stopped kept))
-doing_asked kept stop (Gathering flow purpose) = asked_of (gather_rest flow) stop (λ left result. finishes (ended_for purpose kept result)) (finishes (stopped kept))
+doing_asked kept stop (Gathering flow purpose) = asked_of (gather_rest flow.value) stop (λ left result. finishes (ended_for purpose kept result)) (finishes (stopped kept))
 doing_asked kept stop (Reading flow at) = asked_of (rest_of (read_standing flow)) stop (λ left result. finishes (read_from kept at result)) (finishes (stopped kept))
 doing_asked kept stop (Verifying flow at content) = asked_of (rest_of (read_standing flow)) stop (λ left result. finishes (verified kept at content result)) (finishes (stopped kept))
 doing_asked kept stop (Telling flow) = asked_of (rest_of (attr_standing flow)) stop (if_asked kept) (finishes (stopped kept))
 doing_asked kept stop (Truncating flow) = asked_of (rest_of (truncate_standing flow)) stop (λ left result. finishes (truncated kept result)) (finishes (stopped kept))
-doing_asked kept stop (Flattening flow) = asked_of (rest_of (flatten_standing flow)) stop (λ left result. finishes (flattened kept result)) (finishes (stopped kept))
+doing_asked kept stop (Flattening flow) = asked_of (rest_of (flatten_standing flow.value)) stop (λ left result. finishes (flattened kept result)) (finishes (stopped kept))
 doing_asked kept stop (Renaming flow) = asked_of (rest_of (rename_standing flow)) stop (λ left result. finishes (renamed kept result)) (finishes (stopped kept))
 doing_asked kept stop (Recovering flow) = asked_of (rest_of (recover_standing flow)) stop (λ left result. finishes (recovered kept result)) (finishes (stopped kept))
-doing_asked kept stop (Refreshing flow) = asked_of (rest_of (refresh_standing flow)) stop (λ left result. finishes (reader_refreshed kept result)) (finishes (stopped kept))
+doing_asked kept stop (Refreshing flow) = asked_of (rest_of (refresh_standing flow.value)) stop (λ left result. finishes (reader_refreshed kept result)) (finishes (stopped kept))
 doing_asked kept stop (Naming flow) = asked_of (rest_of (names_standing flow)) stop (λ left result. finishes (names_listed kept result)) (finishes (stopped kept))
 
 -- how a reader is opened with what its workers came to
@@ -155,15 +155,15 @@ doing_left (Writing flow at len) = write_left flow + 1
 doing_left (Syncing flow) = sync_left flow + 1
 doing_left (Closing flow) = close_left flow + 1
 doing_left (Listing flow purpose) = open_calls_left flow + shares_bound (workers_of purpose) + 1
-doing_left (Gathering flow purpose) = gather_left flow + 1
+doing_left (Gathering flow purpose) = gather_left flow.value + 1
 doing_left (Reading flow at) = read_left flow + 1
 doing_left (Verifying flow at content) = read_left flow + 1
 doing_left (Telling flow) = attr_left flow + (list_bound + shares_bound 1) + 1
 doing_left (Truncating flow) = truncate_left flow + 1
-doing_left (Flattening flow) = flatten_left flow + 1
+doing_left (Flattening flow) = flatten_left flow.value + 1
 doing_left (Renaming flow) = rename_left flow + 1
 doing_left (Recovering flow) = recover_left flow + 1
-doing_left (Refreshing flow) = refresh_left flow + 1
+doing_left (Refreshing flow) = refresh_left flow.value + 1
 doing_left (Naming flow) = names_left flow + 1
 
 abbrev pub state_left : State → ℕ

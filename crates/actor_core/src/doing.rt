@@ -11,7 +11,8 @@ use torn_tail::RecoverFlow;
 use trunc_rename::{RenameFlow, TruncFlow};
 use writer_flow::{CloseFlow, OpenWrite, SyncFlow, WriteFlow};
 
-/// How far the statement at work is: its machine, and what its line tells of the statement itself.
+/// How far the statement at work is: its machine, and what its line tells of the statement itself. A machine that is much larger than that of a
+/// write stands in a box, so that a write doesn't move as many bytes.
 #[derive(Drop)]
 pub(crate) enum Doing {
     /// It makes no further call, and this is what comes of it.
@@ -30,7 +31,7 @@ pub(crate) enum Doing {
         purpose: Purpose,
     },
     Gathering {
-        flow: Gathering,
+        flow: Box<Gathering>,
         purpose: Purpose,
     },
     Reading {
@@ -44,9 +45,9 @@ pub(crate) enum Doing {
     },
     Telling(AttrFlow),
     Truncating(TruncFlow),
-    Flattening(FlattenFlow),
+    Flattening(Box<FlattenFlow>),
     Renaming(RenameFlow),
     Recovering(RecoverFlow),
-    Refreshing(Refresh),
+    Refreshing(Box<Refresh>),
     Naming(NamesRead),
 }

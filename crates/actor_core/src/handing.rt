@@ -159,7 +159,8 @@ impl Actor {
     {
         match outcome {
             Ok(share) => {
-                let flow = Gathering::behind(self.alloc, listed, share)?;
+                let gathering = Gathering::behind(self.alloc, listed, share)?;
+                let flow = Box::new(self.alloc, gathering)?;
                 let purpose = Purpose::Opens { workers: 1 };
                 self.set(State::Working {
                     doing: Doing::Gathering { flow, purpose },

@@ -1,12 +1,14 @@
 //! The machine of the statement at work.
-ghost use Rattle.std.specs.Prelude.{◌≡◌, ◌≤◌, ◌↔◌, IfOk, IfSome, IsTrue, OnOk, option_map};
+ghost use Rattle.std.specs.Prelude.{◌≡◌, ◌≤◌, ◌↔◌, ℕ, Option, IfOk, IfSome, IsTrue, OnOk, option_map};
 ghost use Rattle.mount_model.specs.Step.{IsOwed, OwedBy};
 ghost use Rattle.mount_model.specs.Standing.{next_of, rest_of};
+ghost use Rattle.actor_core.specs.declared.kept.Kept.{Kept as AKept};
+ghost use Rattle.actor_core.specs.declared.kept.Stop.{Stop as AStop};
 ghost use Rattle.actor_core.specs.Stopping.{stoppable as stoppable_of};
-ghost use Rattle.actor_core.specs.Progress.{IsReady, ask_of, given, line_of, told};
+ghost use Rattle.actor_core.specs.Progress.{IsReady, ask_of, given, going, line_of, told};
 ghost use Rattle.index_reader.specs.Covered.{AreByWriter as AreCoversByWriter};
 ghost use Rattle.index_reader.specs.Hosts.{AreByWriter as AreHostsByWriter};
-ghost use Rattle.actor_core.specs.Endings.{ending, opened as opening_ends};
+ghost use Rattle.actor_core.specs.Endings.{ending, opened as opening_ends, wrote};
 ghost use Rattle.actor_core.specs.Opened.{reader_refreshed};
 ghost use Rattle.actor_core.specs.Work.{finishes};
 ghost use Rattle.actor_core.specs.Standings.{progress_of, calls_left, busy, goes, doing_ready, doing_left, state_left};
@@ -25,7 +27,15 @@ use outcomes::{
 use plfs_types::NoMemory;
 use refresh_index::RefreshOut;
 use script_lang::{Line, Outcome};
-use writer_flow::WriterHandle;
+use writer_flow::{WriterHandle, WriterOut};
+
+/// What a write comes to: its place, its length, and what its machine ended with.
+#[derive(Clone, Copy)]
+struct Written {
+    at: u64,
+    len: u64,
+    out: WriterOut,
+}
 
 /// The machine once it was asked for its next call, and that call, broken off where the stop is within it.
 pub(crate) fn next_ask<F: Flow + Drop>(
@@ -90,10 +100,39 @@ impl Actor {
         }
     }
 
-    /// The statement ends as its one machine did.
+    /// The statement ends as its one machine did. That of a write stays where it is until then.
     fn end(&mut self) -> Result<Option<Ask>, NoMemory>
         requires { IsOneOver self.old.state }
         ensures ask { IfOk result (λ ask. ask ≡ ask_of (progress_of self.old)) }
+        ensures owed { IfOk result (λ ask. IfSome ask IsOwed) }
+        ensures goes_on { OnOk result (progress_of self.new ≡ given (progress_of self.old)) }
+        ensures left { OnOk result (calls_left self.new ≡ 0) }
+    {
+        if let Some(written) = self.written() {
+            self.kept.writer = written.out.handle;
+            self.tell(write_outcome(written.at, written.len, written.out.result));
+            return Ok(None);
+        }
+        self.end_other()
+    }
+
+    /// What a write comes to, or None where another statement is at its end.
+    fn written(&self) -> Option<Written>
+        requires { IsOneOver self.now.state }
+        ensures { IfSome result (λ written. progress_of self.now ≡ going self.now.number (finishes (wrote self.now.kept written.at written.len written.out))) }
+    {
+        match &self.state {
+            State::Working { doing, .. } => written_by(doing),
+            _ => None,
+        }
+    }
+
+    /// The same, wherever its machine is taken apart.
+    #[inline(never)]
+    fn end_other(&mut self) -> Result<Option<Ask>, NoMemory>
+        requires { IsOneOver self.old.state }
+        ensures ask { IfOk result (λ ask. ask ≡ ask_of (progress_of self.old)) }
+        ensures owed { IfOk result (λ ask. IfSome ask IsOwed) }
         ensures goes_on { OnOk result (progress_of self.new ≡ given (progress_of self.old)) }
         ensures left { OnOk result (calls_left self.new ≡ 0) }
     {
@@ -105,6 +144,22 @@ impl Actor {
             }
             _ => unreachable!(),
         }
+    }
+}
+
+/// What a write at its end comes to, or None where this is another statement.
+fn written_by(doing: &Doing) -> Option<Written>
+    requires { IsAtEnd doing.now }
+    ensures { IfSome result (λ written. (number : ℕ) (kept : AKept) (stop : Option AStop)
+        → busy number (doing_ready kept stop doing.now) ≡ going number (finishes (wrote kept written.at written.len written.out))) }
+{
+    match doing {
+        Doing::Writing { flow, at, len } => Some(Written {
+            at: *at,
+            len: *len,
+            out: flow.ended(),
+        }),
+        _ => None,
     }
 }
 
@@ -204,10 +259,10 @@ impl Actor {
                 Ok(outcome)
             }
             Doing::Truncating(flow) => Ok(truncate_outcome(flow.out())),
-            Doing::Flattening(flow) => flatten_outcome(self.alloc, flow.out()),
+            Doing::Flattening(flow) => flatten_outcome(self.alloc, Box::into_inner(flow).out()),
             Doing::Renaming(flow) => Ok(rename_outcome(flow.out())),
             Doing::Recovering(flow) => Ok(recover_outcome(flow.out())),
-            Doing::Refreshing(flow) => self.refreshed(flow.out()),
+            Doing::Refreshing(flow) => self.refreshed(Box::into_inner(flow).out()),
             Doing::Naming(flow) => Ok(list_outcome(flow.out())),
             Doing::Known(_) | Doing::Listing { .. } | Doing::Gathering { .. } | Doing::Telling(_) =>
                 unreachable!(),

@@ -44,7 +44,8 @@ impl Actor {
         match next.out() {
             Ok(listing) => {
                 let gathering = Gathering::new(self.alloc, Listed::of(listing), purpose.workers())?;
-                self.next_gathering(gathering, purpose)
+                let flow = Box::new(self.alloc, gathering)?;
+                self.next_gathering(flow, purpose)
             }
             Err(because) => {
                 self.tell(stuck_outcome(because));
@@ -55,7 +56,7 @@ impl Actor {
 
     pub(crate) fn next_gathering(
         &mut self,
-        flow: Gathering,
+        flow: Box<Gathering>,
         purpose: Purpose,
     ) -> Result<Option<Ask>, NoMemory>
         ensures ask { IfOk result (λ ask. ask ≡ ask_of (busy self.old.number (doing_ready self.old.kept self.old.stop (Doing.Gathering flow purpose)))) }
@@ -63,13 +64,11 @@ impl Actor {
         ensures goes_on { OnOk result (progress_of self.new ≡ given (busy self.old.number (doing_ready self.old.kept self.old.stop (Doing.Gathering flow purpose)))) }
         ensures left { OnOk result (calls_left self.new ≤ doing_left (Doing.Gathering flow purpose)) }
     {
-        match flow.next(self.alloc)? {
+        match Box::into_inner(flow).next(self.alloc)? {
             Called::Asks(call, asking) => {
+                let flow = Box::new(self.alloc, asking)?;
                 self.set(State::Working {
-                    doing: Doing::Gathering {
-                        flow: asking,
-                        purpose,
-                    },
+                    doing: Doing::Gathering { flow, purpose },
                     is_out: true,
                 });
                 Ok(Some(stoppable(self.stop, call)))

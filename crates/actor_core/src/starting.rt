@@ -52,7 +52,7 @@ impl Actor {
             Statement::Read { at, len } => self.read(at, len),
             Statement::Verify { at, content } => self.verify(at, content),
             Statement::Map => self.map(),
-            Statement::Refresh => Ok(self.refresh()),
+            Statement::Refresh => self.refresh(),
             Statement::Rclose => Ok(self.close_reader()),
             Statement::Stat { name } => Ok(Doing::Telling(AttrFlow::new(self.alloc, name))),
             Statement::Trunc { name, size } => Ok(Doing::Truncating(TruncFlow::new(name, size))),
@@ -63,7 +63,9 @@ impl Actor {
             Statement::Ls => Ok(Doing::Naming(NamesRead::new())),
             Statement::Stop { call, bytes } => Ok(self.arm(call, bytes)),
             Statement::Flatten { name } => {
-                Ok(Doing::Flattening(FlattenFlow::new(self.alloc, name)))
+                let machine = FlattenFlow::new(self.alloc, name);
+                let flow = Box::new(self.alloc, machine)?;
+                Ok(Doing::Flattening(flow))
             }
         }
     }
@@ -183,12 +185,16 @@ impl Actor {
         Ok(Doing::Known(Outcome::Map { pieces }))
     }
 
-    fn refresh(&mut self) -> Doing
-        ensures goes { doing_ready self.new.kept self.new.stop result ≡ goes (refreshes self.old.kept self.old.stop self.old.kept.reader) }
+    fn refresh(&mut self) -> Result<Doing, NoMemory>
+        ensures goes { IfOk result (λ doing. doing_ready self.new.kept self.new.stop doing ≡ goes (refreshes self.old.kept self.old.stop self.old.kept.reader)) }
     {
         match self.kept.reader.take() {
-            None => refuse(Why::NotOpen),
-            Some(reader) => Doing::Refreshing(Refresh::new(self.alloc, reader.into_parts())),
+            None => Ok(refuse(Why::NotOpen)),
+            Some(reader) => {
+                let machine = Refresh::new(self.alloc, reader.into_parts());
+                let flow = Box::new(self.alloc, machine)?;
+                Ok(Doing::Refreshing(flow))
+            }
         }
     }
 

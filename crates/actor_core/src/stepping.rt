@@ -7,6 +7,7 @@ ghost use Rattle.actor_core.specs.declared.actor.State.TheVariants.{Idle};
 ghost use Rattle.actor_core.specs.Progress.{idle, fresh, IsIdle, IsReady, IsAsked, begun, ask_of, given, with_reply, waiting_line, line_taken};
 ghost use Rattle.actor_core.specs.Standings.{progress_of, calls_left};
 ghost use Rattle.actor_core.specs.Machines.{IsOneReady};
+ghost use Rattle.actor_core.specs.Taking.{IsWorking};
 
 use crate::actor::{Actor, State};
 use crate::kept::Kept;
@@ -101,7 +102,9 @@ impl Actor {
         }
     }
 
-    // The same, unless a statement with one machine is to make its next call.
+    // The same, unless a statement with one machine is to make its next call. What it has on the stack is not to stand in the frame
+    // of `next`, which sets its frame to zeros: so it stays out of line.
+    #[inline(never)]
     fn next_other(&mut self) -> Result<Option<Ask>, NoMemory>
         requires other { IsOneReady self.old.state → ⊥ }
         requires ready { IsReady (progress_of self.old) }
@@ -157,6 +160,17 @@ impl Actor {
         if is_working(&self.state) {
             return self.take_reply(reply);
         }
+        self.take_greeting(reply)
+    }
+
+    // Takes the reply to the actor's greeting.
+    #[inline(never)]
+    fn take_greeting(&mut self, reply: Reply) -> Result<(), NoMemory>
+        requires other { IsWorking self.old.state → ⊥ }
+        requires asked { IsAsked (progress_of self.old) }
+        ensures goes_on { OnOk result (progress_of self.new ≡ with_reply (progress_of self.old) reply) }
+        ensures left { OnOk result (calls_left self.new < calls_left self.old) }
+    {
         match self.state_taken() {
             // A call of the statement's machine is out, as it would be behind a greeting.
             State::Greeting(doing) => {

@@ -1,5 +1,8 @@
 //! How the statement at work goes on with a reply.
-ghost use Rattle.std.specs.Prelude.{◌≡◌, ◌<◌, ◌↔◌, ℕ, false, Option, IsTrue, OnOk};
+ghost use Rattle.std.specs.Prelude.{◌≡◌, ◌<◌, ◌↔◌, ℕ, true, false, Option, IsTrue, OnOk};
+ghost use Rattle.script_lang.specs.declared.line.Outcome.TheVariants.{Stopped};
+ghost use Rattle.actor_core.specs.declared.actor.State.TheVariants.{Working};
+ghost use Rattle.actor_core.specs.declared.doing.Doing.TheVariants.{Known};
 ghost use Rattle.actor_core.specs.declared.kept.Kept.{Kept as AKept};
 ghost use Rattle.actor_core.specs.declared.kept.Stop.{Stop as AStop};
 ghost use Rattle.actor_core.specs.Stopping.{is_due as due_test, one_nearer as nearer};
@@ -35,16 +38,30 @@ impl Actor {
     {
         if is_due(self.stop) {
             drop(reply);
-            self.kept.gone = true;
-            self.set(State::Working {
-                doing: Doing::Known(Outcome::Stopped),
-                is_out: false,
-            });
+            self.stop_here();
             return Ok(());
         }
         work_taken(&mut self.state, reply)?;
         self.stop = one_nearer(self.stop);
         Ok(())
+    }
+}
+
+impl Actor {
+    /// The actor stops within the statement at work. It stays out of line, as what it has on the stack is not to stand in the
+    /// frame of `take_reply`.
+    #[inline(never)]
+    fn stop_here(&mut self)
+        ensures state { self.new.state ≡ Working (Known Stopped) false }
+        ensures kept { self.new.kept ≡ record self.old.kept { gone = true } }
+        ensures number { self.new.number ≡ self.old.number }
+        ensures stop { self.new.stop ≡ self.old.stop }
+    {
+        self.kept.gone = true;
+        self.set(State::Working {
+            doing: Doing::Known(Outcome::Stopped),
+            is_out: false,
+        });
     }
 }
 
@@ -66,6 +83,20 @@ fn work_taken(state: &mut State, reply: Reply) -> Result<(), NoMemory>
 
 /// The machine takes the reply to its call, where it is.
 fn reply_taken(doing: &mut Doing, reply: Reply) -> Result<(), NoMemory>
+    requires { AwaitsReply doing.old }
+    ensures goes_on { OnOk result ((number : ℕ) (kept : AKept) (stop : Option AStop) → due_test stop ≡ false
+        → busy number (doing_ready kept (nearer stop) doing.new) ≡ with_reply (busy number (doing_asked kept stop doing.old)) reply) }
+    ensures left { OnOk result (doing_left doing.new < doing_left doing.old) }
+{
+    match doing {
+        Doing::Writing { flow, .. } => flow.take(reply),
+        _ => reply_taken_any(doing, reply),
+    }
+}
+
+/// The same, whichever machine it is. It stays out of line, as what the others have on the stack is not to stand in the frame of `reply_taken`.
+#[inline(never)]
+fn reply_taken_any(doing: &mut Doing, reply: Reply) -> Result<(), NoMemory>
     requires { AwaitsReply doing.old }
     ensures goes_on { OnOk result ((number : ℕ) (kept : AKept) (stop : Option AStop) → due_test stop ≡ false
         → busy number (doing_ready kept (nearer stop) doing.new) ≡ with_reply (busy number (doing_asked kept stop doing.old)) reply) }

@@ -1,3 +1,4 @@
 mod SameFile
+mod Eights
 mod Over
 mod UsedLast

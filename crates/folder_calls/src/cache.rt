@@ -6,7 +6,7 @@ ghost use Rattle.std.specs.Cmp.Lexicographic.{pointwise};
 ghost use Rattle.lru.specs.LruCache.{lru_cache, put_entries};
 ghost use Rattle.store_api.specs.Step.{step_of};
 ghost use Rattle.folder_calls.specs.Acted.{ActsHeld};
-ghost use Rattle.folder_calls.specs.Keys.{same_file};
+ghost use Rattle.folder_calls.specs.Keys.{name_digest, same_file};
 ghost use Rattle.folder_calls.specs.Opened.{held_at};
 ghost use Rattle.folder_calls.specs.Own.{is_own};
 
@@ -30,13 +30,10 @@ pub struct FileKey {
     pub file: Name,
 }
 
-// Whether both names have the same bytes. They are short, so that a comparison of slices by many bytes at a time takes
-// longer.
-fn is_same_name(a: &Name, b: &Name) -> bool
+// Whether both have the same bytes. They are few, so that a comparison of slices by many bytes at a time takes longer.
+fn are_same_few(a: &[u8], b: &[u8]) -> bool
     ensures { result ≡ pointwise nat_eq a.now b.now }
 {
-    let a = a.bytes();
-    let b = b.bytes();
     if a.len() != b.len() {
         return false;
     }
@@ -46,6 +43,43 @@ fn is_same_name(a: &Name, b: &Name) -> bool
         }
     }
     true
+}
+
+// Whether both are the same, compared as one number.
+fn are_same_eight(a: &[u8; 8], b: &[u8; 8]) -> bool
+    ensures { result ≡ pointwise nat_eq a.now b.now }
+{
+    u64::from_le_bytes(*a) == u64::from_le_bytes(*b)
+}
+
+// Whether both names have the same bytes, compared eight at a time.
+fn is_same_name(a: &Name, b: &Name) -> bool
+    ensures { result ≡ pointwise nat_eq a.now b.now }
+{
+    let mut rest = a.bytes();
+    let mut other = b.bytes();
+    while let Some((front, behind)) = rest.split_first_chunk::<8>() {
+        let Some((its_front, its_behind)) = other.split_first_chunk::<8>() else {
+            return false;
+        };
+        if !are_same_eight(front, its_front) {
+            return false;
+        }
+        rest = behind;
+        other = its_behind;
+    }
+    are_same_few(rest, other)
+}
+
+// What tells most names of files apart: their lengths, and their last eight bytes, which end in the writer's number.
+fn name_digest(name: &Name) -> u64
+    ensures { result ≡ name_digest name.now }
+{
+    let bytes = name.bytes();
+    match bytes.last_chunk::<8>() {
+        Some(last) => u64::from_le_bytes(*last) ^ (bytes.len() as u64 * 0x1_0000),
+        None => bytes.len() as u64,
+    }
 }
 
 impl PartialEq for FileKey {
@@ -72,19 +106,18 @@ impl Eq for FileKey {
 }
 
 impl Hash for FileKey {
-    ghost use Rattle.std.specs.Prelude.{◌++◌};
     ghost use Rattle.std.proofs.Common.{rules};
     ghost use Rattle.std.specs.Cmp.Rules.{hashing};
     ghost use Rattle.std.specs.Hash as fed;
+    ghost use Rattle.folder_calls.specs.Keys.{key_digest};
 
     // Files of one name in several folders of a room are rare: a dropping's name has its writer's id.
-    ghost hash_input = { λ key. fed.u64 key.room ++ fed.slice fed.u8 key.file };
+    ghost hash_input = { λ key. fed.u64 (key_digest key) };
 
     ghost respects_eq = { Prim.search (hashing, rules) };
 
     fn hash<H: Hasher>(&self, state: &mut H) {
-        self.room.hash(state);
-        self.file.bytes().hash(state);
+        name_digest(&self.file).wrapping_add(self.room).hash(state);
     }
 }
 

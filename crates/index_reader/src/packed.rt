@@ -1,5 +1,5 @@
 //! What the bytes of a packed index give.
-ghost use Rattle.std.specs.Prelude.{All, ℕ, ◌≡◌, ◌≤◌, ◌<◌, ◌+◌, ◌*◌, length, drop, IfOk, IfNone};
+ghost use Rattle.std.specs.Prelude.{All, ℕ, ◌≡◌, ◌≤◌, ◌<◌, ◌+◌, ◌*◌, length, drop, vec_len, IfOk, IfNone};
 ghost use Rattle.interval_merge.specs.Writer.{HasPiece};
 ghost use Rattle.index_entry.specs.Entries.{logged, last_stamp};
 ghost use Rattle.index_entry.specs.Records.{records_in};
@@ -13,6 +13,7 @@ ghost use Rattle.index_reader.specs.Packs.{if_headed, head_fault as fault_of, ru
 use crate::entries::Tail;
 use index_entry::number_at;
 use index_pack::{HEAD_SIZE, PackTrouble, RUN_SIZE, unpack};
+use interval_merge::give_back;
 use mount_model::{Stuck, damage};
 use plfs_types::{Bytes, Cover, Entry, EntryList, MAX_PACKED, NoMemory, Path};
 use std::alloc::Global;
@@ -155,16 +156,31 @@ fn begins_covered(cover: &Cover, entries: &[Entry]) -> bool
     bytes == cover.bytes && stamp == cover.stamp
 }
 
+/// The entries past the first so many.
+fn past_first(entries: Vec<Entry>, covered: usize) -> Result<Vec<Entry>, NoMemory>
+    requires { covered ≤ vec_len entries }
+    ensures { IfOk result (λ rest. rest.items ≡ drop covered entries.items) }
+{
+    if covered == 0 {
+        return Ok(entries);
+    }
+    let mut all = entries;
+    let rest = all.split_off(covered)?;
+    give_back(all);
+    Ok(rest)
+}
+
 /// The entries past the covered ones, and a cover of all.
 fn tail_past(cover: &Cover, entries: EntryList) -> Result<Tail, NoMemory>
     requires { IsOfOne entries }
     ensures value { IfOk result (λ tail. tail ≡ past cover.now entries) }
     ensures pieces { IfOk result (λ tail. All HasPiece tail.entries) }
 {
-    let mut all = entries.into_vec();
+    let all = entries.into_vec();
     let (bytes, stamp) = end_of(all.as_slice());
     let count = all.len();
-    let rest = all.split_off(cover.count.min(count as u64) as usize)?;
+    let covered = cover.count.min(count as u64) as usize;
+    let rest = past_first(all, covered)?;
     Ok(Tail {
         cover: Cover {
             writer: cover.writer,

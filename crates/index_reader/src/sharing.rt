@@ -14,7 +14,7 @@ use crate::entries::Tail;
 use crate::listing::{Dropping, DroppingList};
 use crate::steps::{DroppingRead, PackRead, TailRead};
 use crate::tails::After;
-use interval_merge::{PiecesList, merge_all, of_writer};
+use interval_merge::{PiecesList, give_back, merge_all, of_writer};
 use mount_model::{Call, Flow, Reply, Stuck};
 use plain_file::{PieceList, Pieces};
 use plfs_types::{Cover, CoverList, Entry, NoMemory, Queue};
@@ -105,10 +105,12 @@ impl Sofar {
         requires { All HasPiece tail.entries }
         ensures { OnOk result (self.new ≡ added tail self.old) }
     {
-        let pieces = pieces(alloc, tail.entries.as_slice())?;
+        let Tail { cover, entries } = tail;
+        let pieces = pieces(alloc, entries.as_slice())?;
+        give_back(entries.into_vec());
         self.lists.push(pieces)?;
-        if tail.cover.count > 0 {
-            self.covers.push(tail.cover)?;
+        if cover.count > 0 {
+            self.covers.push(cover)?;
         }
         Ok(())
     }

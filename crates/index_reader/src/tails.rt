@@ -12,6 +12,7 @@ use crate::listing::Dropping;
 use crate::replies::{log_length_in, number_in};
 use crate::steps::{DroppingRead, Step, TailRead};
 use container_layout::{Item, print};
+use interval_merge::give_back;
 use mount_model::{Call, Look, Reply, Stuck, bytes_in, damage, next_read, trouble};
 use plfs_types::{Cover, ENTRY_SIZE, EntryList, NoMemory, Path};
 use std::alloc::Global;
@@ -159,11 +160,12 @@ impl TailRead {
         let Some(bytes) = bytes_in(reply) else {
             return Ok(After::Is(Err(why)));
         };
-        let bytes = bytes.as_slice();
         let asked = next_read(left);
-        let is_full = ENTRY * asked <= bytes.len() as u64;
+        let is_full = ENTRY * asked <= bytes.as_slice().len() as u64;
         let mut tail = self.tail;
-        let past = match look(&mut tail, log, asked, ended, bytes)? {
+        let went = look(&mut tail, log, asked, ended, bytes.as_slice())?;
+        give_back(bytes.into_vec());
+        let past = match went {
             Went::Breaks => {
                 return Ok(After::Is(Err(damage(&path, ENTRY * tail.cover.count))));
             }

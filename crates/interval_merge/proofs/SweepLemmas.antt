@@ -1,5 +1,5 @@
 -- Lists of pieces with one more at the end, and the last truncate.
-use Rattle.std.proofs.Common.{◌≡◌, ℕ, ◌+◌, ◌-◌, ◌<◌, ◌≤◌, inl, inr, true, false, min, cond, List, [], ◌∷◌, ◌++◌, ◌^◌, length, get_or, Option, None, Some, option_map, option_to_list, refl, ap, ◌∙◌, sym, subst, arith, append_assoc}
+use Rattle.std.proofs.Common.{◌≡◌, ℕ, ◌+◌, ◌-◌, ◌<◌, ◌≤◌, inl, inr, true, false, min, cond, List, [], ◌∷◌, ◌++◌, ◌^◌, length, get_or, Option, None, Some, MatchOption, option_map, option_to_list, refl, ap, ◌∙◌, sym, subst, arith, append_assoc}
 use Rattle.std.proofs.lemmas.Bool.{cases_lt, cases_Bool, cond-true, cond-false}
 use Rattle.std.proofs.lemmas.Bool.Decides.{nat_tests}
 use Rattle.plfs_types.specs.declared.entries.Trunc.{Trunc}
@@ -8,7 +8,8 @@ use Rattle.plain_file.specs.Sources.{newer_source, Source, source_in, source_at,
 use Rattle.plain_file.specs.Runs.{AreRuns, IsPiece, Follows, Joins, EndsPast}
 use Rattle.plain_file.specs.Size.{is_later, later}
 use Rattle.plain_file.proofs.Facts.{source_at-here, source_at-past, source_at-before, has-before}
-use Rattle.interval_merge.specs.Sweep.{AllEndBy, Extends, EndsFrom, SaysUntil, IsRestFrom}
+use Rattle.interval_merge.specs.Sweep.{AllEndBy, CanLie, Extends, EndsFrom, IsPart, IsRestFrom, Lays, LiesWithin, SaysUntil}
+use Rattle.interval_merge.proofs.ListsLemmas.{newer_source-none}
 
 -- truncates
 
@@ -192,21 +193,36 @@ IsMerged-gap a b runs from until le m none = record {
   says = λ x h. elim (cases_lt x from) [ inl before ↦ m.says x before | inr past ↦ quiet_after from runs x m.ends past ∙ sym (none x past h) ];
 }
 
--- the winner's piece goes to the end
-pub IsMerged-piece : (a b runs new : List Piece) (from until : ℕ) (piece : Piece) → piece.at ≡ from → piece.len ≡ until - from → from < until → IsMerged a b runs from
-    → ((x : ℕ) → from ≤ x → x < until → newer_source (source_at a x) (source_at b x) ≡ Some (source_in x piece)) → Extends runs piece new → IsMerged a b new until
-IsMerged-piece a b runs new from until piece at len le m wins more =
+-- what is left of both lists says what the lists say
+left_say : (a b left_a left_b : List Piece) (from x : ℕ) → IsRestFrom a from left_a → IsRestFrom b from left_b → from ≤ x
+    → newer_source (source_at a x) (source_at b x) ≡ newer_source (source_at left_a x) (source_at left_b x)
+left_say a b left_a left_b from x la lb h =
+    ap (λ o. newer_source o (source_at b x)) (sym (la.same x h)) ∙ ap (newer_source (source_at left_a x)) (sym (lb.same x h))
+
+-- what both lists say next is laid behind the runs
+pub IsMerged-part : (a b runs new left_a left_b : List Piece) (from until : ℕ) (piece : Option Piece) → IsMerged a b runs from
+    → IsRestFrom a from left_a → IsRestFrom b from left_b → IsPart left_a left_b from piece until → Lays runs piece new → IsMerged a b new until
+IsMerged-part a b runs new left_a left_b from until None m la lb part lays =
+    let P : List Piece → Type 0 = λ ps. IsMerged a b ps until in
+    subst P (sym lays) (IsMerged-gap a b runs from until (omega (arith, part.more)) m (λ x h l. left_say a b left_a left_b from x la lb h ∙ part.same x h l))
+IsMerged-part a b runs new left_a left_b from until (Some p) m la lb part lays =
     let P : ℕ → Type 0 = λ n. AllEndBy n new in
-    let Q : ℕ → Type 0 = λ n. AllEndBy n runs in
-    let end : piece.at + piece.len ≡ until = omega arith in
     record {
-      runs_are = more.runs;
-      ends = subst P end more.ends;
-      says = λ x h. more.says x ∙ elim (cases_lt x from) [
-        | inl before ↦ pushed_before runs piece x (omega arith) ∙ m.says x before
-        | inr past_it ↦ pushed_at runs piece x (subst Q (sym at) m.ends) (omega arith) ∙ source_at-here piece [] x (omega arith) (omega arith) ∙ sym (wins x past_it h)
+      runs_are = lays.runs;
+      ends = subst P part.holds.ends lays.ends;
+      says = λ x h. lays.says x ∙ elim (cases_lt x from) [
+        | inl before ↦ pushed_before runs p x (omega (arith, part.holds.starts)) ∙ m.says x before
+        | inr past_it ↦ (let told : newer_source (source_at a x) (source_at b x) ≡ source_at (p ∷ []) x = left_say a b left_a left_b from x la lb past_it ∙ part.same x past_it h in
+            elim (cases_lt x p.at) [
+              | inl gap ↦ pushed_before runs p x gap ∙ quiet_after from runs x m.ends past_it ∙ sym (told ∙ cond-false (has_byte p x) (Some (source_in x p)) None (has-before p x gap))
+              | inr within ↦ pushed_at runs p x (AllEndBy-more from p.at runs m.ends part.holds.starts) within ∙ sym told
+            ])
       ];
     }
+
+pub CanLie-part : (runs : List Piece) (from until : ℕ) (piece : Option Piece) → AllEndBy from runs → MatchOption piece (Unit {0}) (LiesWithin from until) → CanLie runs piece
+CanLie-part runs from until None ends holds = tt
+CanLie-part runs from until (Some p) ends holds = (holds.piece, AllEndBy-more from p.at runs ends holds.starts)
 
 -- all bytes are done at the limit
 pub IsMerged-all : (a b runs : List Piece) → AreRuns a → AreRuns b → IsMerged a b runs (2 ^ 40) → (x : ℕ) → source_at runs x ≡ newer_source (source_at a x) (source_at b x)
@@ -215,16 +231,6 @@ IsMerged-all a b runs runs_a runs_b m x = elim (cases_lt x (2 ^ 40)) [
   | inr beyond ↦ quiet_after (2 ^ 40) runs x m.ends beyond
       ∙ sym (ap (λ o. newer_source o (source_at b x)) (quiet_after (2 ^ 40) a x (AllEndBy-limit a runs_a) beyond) ∙ quiet_after (2 ^ 40) b x (AllEndBy-limit b runs_b) beyond)
 ]
-
--- what both lists say up to `until`
-pub both_say : (a b left_a left_b : List Piece) (from until until_a until_b : ℕ) (p q w : Option Piece) → until ≡ min until_a until_b
-    → IsRestFrom a from left_a → IsRestFrom b from left_b → SaysUntil left_a from p until_a → SaysUntil left_b from q until_b
-    → ((x : ℕ) → option_map (source_in x) w ≡ newer_source (option_map (source_in x) p) (option_map (source_in x) q))
-    → (x : ℕ) → from ≤ x → x < until → newer_source (source_at a x) (source_at b x) ≡ option_map (source_in x) w
-both_say a b left_a left_b from until until_a until_b p q w e la lb sa sb newer_is x h l =
-    ap (λ o. newer_source o (source_at b x)) (sym (la.same x h) ∙ sa.same x h (omega arith))
-    ∙ ap (newer_source (option_map (source_in x) p)) (sym (lb.same x h) ∙ sb.same x h (omega arith))
-    ∙ sym (newer_is x)
 
 -- what is left after one step
 pub IsLeft-more : (a left rest : List Piece) (from until : ℕ) → from ≤ until → IsRestFrom a from left → IsRestFrom left until rest → IsRestFrom a until rest
@@ -241,10 +247,67 @@ pub EndsFrom-less : (pieces : List Piece) (at until : ℕ) → at ≤ until → 
 EndsFrom-less [] at until le h = tt
 EndsFrom-less (p ∷ pieces) at until le h = omega arith
 
--- after the sweep the runs are `done` and the last one
-pub IsMerged-done : (a b left final : List Piece) (o : Option Piece) (from : ℕ) → AreRuns a → AreRuns b → from ≤ 2 ^ 40 → 2 ^ 40 ≤ from → IsMerged a b (left ++ option_to_list o) from
-    → final ≡ left ++ option_to_list o → (x : ℕ) → source_at final x ≡ newer_source (source_at a x) (source_at b x)
-IsMerged-done a b left final o from runs_a runs_b le ge m e x =
-    let P : ℕ → Type 0 = λ n. IsMerged a b (left ++ option_to_list o) n in
+-- of a first piece its own bytes
+alone : (p : Piece) (a : List Piece) (x : ℕ) → AreRuns (p ∷ a) → x < p.at + p.len → source_at (p ∷ a) x ≡ source_at (p ∷ []) x
+alone p a x runs l = elim (cases_lt x p.at) [
+  | inl before ↦ source_at-before p.at (p ∷ a) x runs (omega arith) before ∙ sym (cond-false (has_byte p x) (Some (source_in x p)) None (has-before p x before))
+  | inr from ↦ source_at-here p a x from l ∙ sym (source_at-here p [] x from l)
+]
+
+-- the first list's first piece ends before the second one's begins
+pub IsPart-first : (a b : List Piece) (from : ℕ) (d : Piece) → 0 < length a → 0 < length b → AreRuns a → AreRuns b → from ≤ (get_or a 0 d).at
+    → (get_or a 0 d).at + (get_or a 0 d).len ≤ (get_or b 0 d).at → IsPart a b from (Some (get_or a 0 d)) ((get_or a 0 d).at + (get_or a 0 d).len)
+IsPart-first [] b from d some_a some_b runs_a runs_b le before = absurd (omega arith)
+IsPart-first (p ∷ a) [] from d some_a some_b runs_a runs_b le before = absurd (omega arith)
+IsPart-first (p ∷ a) (q ∷ b) from d some_a some_b runs_a runs_b le before = record {
+  more = omega (arith, runs_a.0.not_empty);
+  within = runs_a.0.within;
+  first_a = omega arith;
+  first_b = omega arith;
+  holds = record { piece = runs_a.0; starts = le; ends = refl };
+  same = λ x h l. ap (newer_source (source_at (p ∷ a) x)) (source_at-before q.at (q ∷ b) x runs_b (omega arith) (omega arith))
+      ∙ newer_source-none (source_at (p ∷ a) x) ∙ alone p a x runs_a l;
+}
+
+-- the other way round
+pub IsPart-second : (a b : List Piece) (from : ℕ) (d : Piece) → 0 < length a → 0 < length b → AreRuns a → AreRuns b → from ≤ (get_or b 0 d).at
+    → (get_or b 0 d).at + (get_or b 0 d).len ≤ (get_or a 0 d).at → IsPart a b from (Some (get_or b 0 d)) ((get_or b 0 d).at + (get_or b 0 d).len)
+IsPart-second [] b from d some_a some_b runs_a runs_b le before = absurd (omega arith)
+IsPart-second (p ∷ a) [] from d some_a some_b runs_a runs_b le before = absurd (omega arith)
+IsPart-second (p ∷ a) (q ∷ b) from d some_a some_b runs_a runs_b le before = record {
+  more = omega (arith, runs_b.0.not_empty);
+  within = runs_b.0.within;
+  first_a = omega arith;
+  first_b = omega arith;
+  holds = record { piece = runs_b.0; starts = le; ends = refl };
+  same = λ x h l. ap (λ o. newer_source o (source_at (q ∷ b) x)) (source_at-before p.at (p ∷ a) x runs_a (omega arith) (omega arith)) ∙ alone q b x runs_b l;
+}
+
+-- the first pieces may share bytes
+pub IsPart-shared : (a b : List Piece) (from until until_a until_b : ℕ) (p q w piece : Option Piece) → until ≡ min until_a until_b
+    → SaysUntil a from p until_a → SaysUntil b from q until_b
+    → ((x : ℕ) → option_map (source_in x) w ≡ newer_source (option_map (source_in x) p) (option_map (source_in x) q))
+    → MatchOption piece (Unit {0}) (LiesWithin from until)
+    → ((x : ℕ) → from ≤ x → x < until → option_map (source_in x) w ≡ source_at (option_to_list piece) x) → IsPart a b from piece until
+IsPart-shared a b from until until_a until_b p q w piece e sa sb newer_is holds says = record {
+  more = omega (arith, sa.more, sb.more);
+  within = omega (arith, sa.within);
+  first_a = EndsFrom-less a until until_a (omega arith) sa.first;
+  first_b = EndsFrom-less b until until_b (omega arith) sb.first;
+  holds = holds;
+  same = λ x h l. ap (λ o. newer_source o (source_at b x)) (sa.same x h (omega arith)) ∙ ap (newer_source (option_map (source_in x) p)) (sb.same x h (omega arith))
+      ∙ sym (newer_is x) ∙ says x h l;
+}
+
+-- the piece of the winner says what that says
+pub winner_says : (winner piece : Piece) (from until : ℕ) → piece.at ≡ from → piece.len ≡ until - from
+    → ((x : ℕ) → from ≤ x → source_in x piece ≡ source_in x winner) → (x : ℕ) → from ≤ x → x < until → Some (source_in x winner) ≡ source_at (piece ∷ []) x
+winner_says winner piece from until at len says x h l = ap Some (sym (says x h)) ∙ sym (source_at-here piece [] x (omega arith) (omega arith))
+
+-- after the sweep the runs say what both lists say
+pub IsMerged-done : (a b runs final : List Piece) (from : ℕ) → AreRuns a → AreRuns b → from ≤ 2 ^ 40 → 2 ^ 40 ≤ from → IsMerged a b runs from
+    → final ≡ runs → (x : ℕ) → source_at final x ≡ newer_source (source_at a x) (source_at b x)
+IsMerged-done a b runs final from runs_a runs_b le ge m e x =
+    let P : ℕ → Type 0 = λ n. IsMerged a b runs n in
     let all : from ≡ 2 ^ 40 = omega arith in
-    ap (λ ps. source_at ps x) e ∙ IsMerged-all a b (left ++ option_to_list o) runs_a runs_b (subst P all m) x
+    ap (λ ps. source_at ps x) e ∙ IsMerged-all a b runs runs_a runs_b (subst P all m) x

@@ -8,6 +8,8 @@
 
 mod clipping;
 mod length;
+mod memory;
+mod room;
 mod sweep;
 mod threads;
 mod tournament;
@@ -15,6 +17,7 @@ mod writer;
 
 pub use clipping::clip;
 pub use length::{last_of, size, wrote_after};
+pub use memory::give_back;
 pub use sweep::merge;
 pub use threads::merge_on;
 pub use tournament::{PiecesList, merge_all};

@@ -1,11 +1,13 @@
 //! A sweep over two lists of pieces, from the first byte to the last.
 
-ghost use Rattle.std.specs.Prelude.{◌≡◌, ◌⊎◌, List, ℕ, ◌+◌, ◌-◌, ◌<◌, ◌≤◌, [], ◌∷◌, ◌++◌, IfOk, None, Option, option_map, option_to_list};
+ghost use Rattle.std.specs.Prelude.{◌≡◌, ◌⊎◌, List, ℕ, ◌+◌, ◌-◌, ◌<◌, ◌≤◌, [], ◌∷◌, ◌++◌, drop, length, IfOk, None, Option, option_map, option_to_list};
 ghost use Rattle.plfs_types.specs.declared.entries.Entry.{Entry};
 ghost use Rattle.plain_file.specs.Sources.{source_at, source_in, newer_source};
 ghost use Rattle.plain_file.specs.Runs.{AreRuns, ArePieces, IsPiece, EndsPast};
-ghost use Rattle.interval_merge.specs.Sweep.{AllEndBy, Extends, EndsFrom, Holds, SaysUntil, IsRestFrom};
+ghost use Rattle.interval_merge.specs.Sweep.{AllEndBy, Extends, EndsFrom, Holds, IsPart, SaysUntil, IsRestFrom};
 
+use crate::memory::give_back;
+use crate::room::{behind, laid, with_room};
 use plain_file::{Piece, PieceList, Pieces};
 use plfs_types::{MAX_SIZE, NoMemory};
 use std::alloc::Global;
@@ -22,12 +24,14 @@ pub fn merge(alloc: Global, a: &Pieces, b: &Pieces) -> Result<Pieces, NoMemory>
     // So the pieces are those of the entries of both.
     ensures joined { IfOk result (λ merged. (entries others : List Entry) → ArePieces entries [] a.now → ArePieces others [] b.now → ArePieces (entries ++ others) [] merged) }
 {
-    let runs = merged_runs(alloc, a.as_slice(), b.as_slice())?;
+    let items = Vec::from_slice(alloc, b.as_slice())?;
+    let runs = merged_runs(a.as_slice(), items)?;
     Ok(Pieces::of(runs))
 }
 
-/// What `merge` gives. Where one list is empty, the other is handed back as it stands.
-pub(crate) fn merge_two(alloc: Global, a: Pieces, b: Pieces) -> Result<Pieces, NoMemory>
+/// What `merge` gives. Where one list is empty, the other is handed back as it stands. Else the second
+/// one's memory grows and takes the pieces of both.
+pub(crate) fn merge_two(a: Pieces, b: Pieces) -> Result<Pieces, NoMemory>
     ensures runs { IfOk result (λ merged. AreRuns merged) }
     ensures newer { IfOk result (λ merged. (x : ℕ) → source_at merged x ≡ newer_source (source_at a x) (source_at b x)) }
 {
@@ -37,36 +41,72 @@ pub(crate) fn merge_two(alloc: Global, a: Pieces, b: Pieces) -> Result<Pieces, N
     if b.as_slice().is_empty() {
         return Ok(a);
     }
-    merge(alloc, &a, &b)
+    let runs = merged_runs(a.as_slice(), b.into_vec())?;
+    give_back(a.into_vec());
+    Ok(Pieces::of(runs))
 }
 
-/// The runs of bytes of the newer pieces.
-fn merged_runs(alloc: Global, a: &[Piece], b: &[Piece]) -> Result<PieceList, NoMemory>
+/// The runs of bytes of the newer pieces. They are laid into the memory of the second list, in front of
+/// those of its pieces that are left, which first go as far back as the first list needs.
+fn merged_runs(a: &[Piece], b: Vec<Piece>) -> Result<PieceList, NoMemory>
     requires a { AreRuns a.now }
-    requires b { AreRuns b.now }
+    requires b { AreRuns b.items }
     ensures runs { IfOk result (λ merged. AreRuns merged) }
-    ensures newer { IfOk result (λ merged. (x : ℕ) → source_at merged x ≡ newer_source (source_at a.now x) (source_at b.now x)) }
+    ensures newer { IfOk result (λ merged. (x : ℕ) → source_at merged x ≡ newer_source (source_at a.now x) (source_at b.items x)) }
 {
+    let mut items = b;
+    let mut place = with_room(&mut items, 0, 0, a.len() + 1)?;
     let mut left_a = a;
-    let mut left_b = b;
-    let mut done = PieceList::from_vec(Vec::with_capacity(alloc, a.len() + b.len())?);
-    let mut last = None;
+    let mut count = 0;
     let mut from = 0;
     while from < MAX_SIZE {
-        let (p, p_until) = says_until(left_a, from);
-        let (q, q_until) = says_until(left_b, from);
-        let until = p_until.min(q_until);
-        if let Some(winner) = newer(p, q) {
-            last = Some(extend(&mut done, last, part_of(&winner, from, until))?);
-        }
+        let left = left_a.len().saturating_add(items.len() - place);
+        place = with_room(&mut items, count, place, left.saturating_add(1))?;
+        let left_b = behind(&items, place);
+        let (piece, until) = next_part(left_a, left_b, from);
+        place += ended_by(left_b, until);
         left_a = past(left_a, until);
-        left_b = past(left_b, until);
+        count = laid(&mut items, count, piece);
         from = until;
     }
-    if let Some(last) = last {
-        done.push(last)?;
+    items.truncate(count);
+    Ok(PieceList::from_vec(items))
+}
+
+/// What the newer of two lists says next from a byte on, or None where both say nothing, and up to where.
+fn next_part(a: &[Piece], b: &[Piece], from: u64) -> (Option<Piece>, u64)
+    requires a { AreRuns a.now × EndsPast from a.now }
+    requires b { AreRuns b.now × EndsPast from b.now }
+    requires from { from < MAX_SIZE }
+    ensures { IsPart a.now b.now from result.0 result.1 }
+{
+    if let [p, ..] = a {
+        if let [q, ..] = b {
+            if from <= p.at && p.at + p.len <= q.at {
+                return (Some(*p), p.at + p.len);
+            }
+            if from <= q.at && q.at + q.len <= p.at {
+                return (Some(*q), q.at + q.len);
+            }
+        }
     }
-    Ok(done)
+    shared_part(a, b, from)
+}
+
+/// The same where the first pieces may share bytes.
+fn shared_part(a: &[Piece], b: &[Piece], from: u64) -> (Option<Piece>, u64)
+    requires a { AreRuns a.now × EndsPast from a.now }
+    requires b { AreRuns b.now × EndsPast from b.now }
+    requires from { from < MAX_SIZE }
+    ensures { IsPart a.now b.now from result.0 result.1 }
+{
+    let (p, p_until) = says_until(a, from);
+    let (q, q_until) = says_until(b, from);
+    let until = p_until.min(q_until);
+    match newer(p, q) {
+        None => (None, until),
+        Some(winner) => (Some(part_of(&winner, from, until)), until),
+    }
 }
 
 /// Adds a piece behind the others. `last` is the last of them, not yet in `done`; the new last one
@@ -147,6 +187,19 @@ fn past(pieces: &[Piece], at: u64) -> &[Piece]
     match pieces {
         [piece, rest @ ..] if piece.at + piece.len <= at => rest,
         _ => pieces,
+    }
+}
+
+/// How many of the pieces end by this byte: the first one, or none.
+fn ended_by(pieces: &[Piece], at: u64) -> usize
+    requires runs { AreRuns pieces.now }
+    requires first { EndsFrom at pieces.now }
+    ensures rest { IsRestFrom pieces.now at (drop result pieces.now) }
+    ensures within { result ≤ length pieces.now }
+{
+    match pieces {
+        [piece, ..] if piece.at + piece.len <= at => 1,
+        _ => 0,
     }
 }
 

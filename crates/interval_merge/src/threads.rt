@@ -61,6 +61,6 @@ fn merge_halves_on<R: Threads + Sync>(
     );
     let a = a?;
     let b = b?;
-    let merged = merge_two(alloc, a, b)?;
+    let merged = merge_two(a, b)?;
     Ok(merged)
 }

@@ -41,7 +41,7 @@ pub(crate) fn merge_halves(alloc: Global, lists: Vec<Pieces>) -> Result<Pieces, 
     let back = front.split_off(front.len() / 2)?;
     let a = merge_halves(alloc, front)?;
     let b = merge_halves(alloc, back)?;
-    let merged = merge_two(alloc, a, b)?;
+    let merged = merge_two(a, b)?;
     Ok(merged)
 }
 

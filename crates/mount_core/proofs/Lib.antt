@@ -1,5 +1,3 @@
-pub mod Fine
-pub mod Timed
 pub mod Admitted
 pub mod Logical
 pub mod Memory

@@ -13,18 +13,10 @@ impl<S: Store + Drop, C: Clock + Drop> Mount<S, C> {
     /// enters a writer. Broken off, the call makes a part of its act, and its caller is at its end. Where the caller owes
     /// no more of the state than it meets, what was fine stays so: the table is regular, and where the store told a sound
     /// tree as it was mounted, the state is sound.
-    #[tactic(auto, using(mount_sound::proofs::Facts::step_fine))]
     pub fn apply(&mut self, caller: u64, ask: &Ask) -> Reply
         requires { IsOwed ask.now }
         ensures step { IsStep self.old caller ask.now result self.new }
         ensures fine { May self.old caller ask.now → IsFine self.old → IsFine self.new }
-    {
-        self.make_step(caller, ask)
-    }
-
-    fn make_step(&mut self, caller: u64, ask: &Ask) -> Reply
-        requires { IsOwed ask.now }
-        ensures { IsStep self.old caller ask.now result self.new }
     {
         match ask.stop {
             None => self.answer(caller, &ask.call),

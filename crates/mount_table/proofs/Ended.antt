@@ -1,29 +1,14 @@
 -- Rows that are ended one after the other.
-use Rattle.std.proofs.Common.{◌≡◌, ℕ, zero, suc, ◌+◌, ◌<◌, ◌≤◌, List, [], ◌∷◌, ◌++◌, length, map, filter, not, ◌==◌, take, drop, get_or, true, false, nat_eq, refl, ap, sym, ◌∙◌, subst, arith}
-use Rattle.std.proofs.lemmas.Bool.Decides.{nat_tests}
+use Rattle.std.proofs.Common.{◌≡◌, ℕ, zero, suc, ◌+◌, ◌<◌, ◌≤◌, List, [], ◌∷◌, ◌++◌, length, map, filter, not, ◌==◌, take, drop, get_or, refl, ap, sym, ◌∙◌, subst, arith}
 use Rattle.std.specs.Prelude.{slice_set}
 use Rattle.std.proofs.lemmas.List.{length-map}
 use Rattle.mount_model.specs.declared.row.Row.{Row}
 use Rattle.mount_model.specs.declared.row.Holder.{Holder}
 use Rattle.mount_model.specs.declared.row.Flattening.{Flattening}
-use Rattle.mount_model.specs.declared.row.Stage.TheVariants as stage
-use Rattle.mount_model.specs.Table.{at_stage}
 use Rattle.mount_model.specs.Stopping.{row_ended}
 use Rattle.mount_model.proofs.Facts.{ended_regular}
 use Rattle.mount_table.specs.Roll.{Roll, bare, IsRegularRoll}
 use Rattle.mount_table.specs.Ending.{ended_to}
-
-test_same : (a b : ℕ) → a ≡ b → nat_eq a b ≡ true
-test_same a b e = grind (arith, nat_tests)
-
-test_other : (a b : ℕ) → (a ≡ b → ⊥) → nat_eq a b ≡ false
-test_other a b e = grind (arith, nat_tests)
-
-ended_dead : (caller : ℕ) (row : Row) → nat_eq row.owner caller ≡ true → row_ended caller row ≡ at_stage stage.Dead row
-ended_dead caller row t = rw t refl
-
-ended_not : (caller : ℕ) (row : Row) → nat_eq row.owner caller ≡ false → row_ended caller row ≡ row
-ended_not caller row t = rw t refl
 
 set_ended : (caller i : ℕ) (rows : List Row) (row : Row) → i < length rows → row ≡ get_or (ended_to caller i rows) i row → slice_set (ended_to caller i rows) i (row_ended caller row) ≡ ended_to caller (suc i) rows
 set_ended caller i [] row lt is = absurd (omega arith)
@@ -33,15 +18,9 @@ set_ended caller (suc i) (x ∷ rows) row lt is = ap (λ (rs : List Row). row_en
 one_more : (caller i : ℕ) (rows : List Row) → ended_to caller (suc i) rows ≡ ended_to caller (i + 1) rows
 one_more caller i rows = let e : suc i ≡ i + 1 = omega arith in ap (λ n. ended_to caller n rows) e
 
-pub next_dead : (caller i : ℕ) (rows now new : List Row) (row : Row) → now ≡ ended_to caller i rows → i < length rows → row ≡ get_or now i row → (get_or now i row).owner ≡ caller → new ≡ slice_set now i (at_stage stage.Dead (get_or now i row)) → new ≡ ended_to caller (i + 1) rows
-next_dead caller i rows now new row known lt is own set =
-    set ∙ ap (λ (r : Row). slice_set now i (at_stage stage.Dead r)) (sym is) ∙ ap (λ (r : Row). slice_set now i r) (sym (ended_dead caller row (test_same row.owner caller (ap (λ (r : Row). r.owner) is ∙ own)))) ∙ ap (λ (l : List Row). slice_set l i (row_ended caller row)) known
-    ∙ set_ended caller i rows row lt (subst (λ (l : List Row). row ≡ get_or l i row) known is) ∙ one_more caller i rows
-
-pub next_other : (caller i : ℕ) (rows now new : List Row) (row : Row) → now ≡ ended_to caller i rows → i < length rows → row ≡ get_or now i row → ((get_or now i row).owner ≡ caller → ⊥) → new ≡ slice_set now i (get_or now i row) → new ≡ ended_to caller (i + 1) rows
-next_other caller i rows now new row known lt is other set =
-    set ∙ ap (λ (r : Row). slice_set now i r) (sym is ∙ sym (ended_not caller row (test_other row.owner caller (λ e. other (sym (ap (λ (r : Row). r.owner) is) ∙ e))))) ∙ ap (λ (l : List Row). slice_set l i (row_ended caller row)) known
-    ∙ set_ended caller i rows row lt (subst (λ (l : List Row). row ≡ get_or l i row) known is) ∙ one_more caller i rows
+pub next_ended : (caller i : ℕ) (rows now : List Row) (row : Row) → now ≡ ended_to caller i rows → i < length rows → row ≡ get_or now i row → slice_set now i (row_ended caller (get_or now i row)) ≡ ended_to caller (i + 1) rows
+next_ended caller i rows now row known lt is =
+    ap (λ (r : Row). slice_set now i (row_ended caller r)) (sym is) ∙ ap (λ (l : List Row). slice_set l i (row_ended caller row)) known ∙ set_ended caller i rows row lt (subst (λ (l : List Row). row ≡ get_or l i row) known is) ∙ one_more caller i rows
 
 pub all_ended : (caller i : ℕ) (rows : List Row) → length rows ≤ i → ended_to caller i rows ≡ map (row_ended caller) rows
 all_ended caller zero [] le = refl

@@ -14,6 +14,10 @@ use Rattle.mount_table.proofs.Rows.{All-at, All-remove, with_row_at, without_row
 pub read : (rows : List Row) (place : ℕ) (row : Row) → place < length rows → row ≡ get_or rows place row → slice_get rows place ≡ Some row
 read rows place row lt is = slice_get_read rows (length rows) place row refl lt is
 
+-- a row that lies in memory beside something is the one that contracts see there
+pub same_row : (rows : List Row) (place : ℕ) (row seen : Row) → row ≡ seen → seen ≡ get_or rows place seen → row ≡ get_or rows place row
+same_row rows place row seen is stands = subst (λ (r : Row). r ≡ get_or rows place r) (sym is) stands
+
 -- what holds of the row that was read holds of the row at its place
 pub at_place : (roll : Roll) (place : ℕ) (row : Row) (P : Row → Type 0) → place < length roll.table.writers → row ≡ get_or roll.table.writers place row → P row → AtPlace roll.table place P
 at_place roll place row P lt is holds = rw (read roll.table.writers place row lt is) holds

@@ -4,16 +4,14 @@ ghost use Rattle.mount_model.specs.Stopping.{row_ended, without_caller};
 ghost use Rattle.mount_table.specs.Roll.{with_table};
 
 use crate::roster::Roster;
-use mount_model::{Row, Stage};
+use crate::writer::Writer;
 
 /// Makes the caller's writers dead.
-fn end_rows(rows: &mut Vec<Row>, caller: u64)
+fn end_rows(rows: &mut Vec<Writer>, caller: u64)
     ensures { rows.new.items ≡ map (row_ended caller) rows.old.items }
 {
     for row in rows.iter_mut() {
-        if row.owner == caller {
-            row.stage = Stage::Dead;
-        }
+        row.end(caller);
     }
 }
 

@@ -6,8 +6,10 @@ ghost use Rattle.mount_model.specs.Entering.{enter_outcome};
 ghost use Rattle.mount_table.specs.Admitting.{IsNewcomer, IsAdmitted, IsTurnedAway, with_writers};
 ghost use Rattle.mount_table.specs.Settling.{IsSettled};
 
+use crate::paths::log_path;
 use crate::roster::Roster;
 use crate::telling::otherwise;
+use crate::writer::Writer;
 use index_buffer::Buffer;
 use mount_model::{Refusal, Reply, Row, Stage};
 use plfs_types::{NoMemory, Path};
@@ -21,7 +23,8 @@ impl Roster {
         ensures ok { OnOk result (self.new ≡ with_writers (self.old.table.writers ++ row ∷ []) self.old) }
         ensures err { OnErr result (self.new ≡ self.old) }
     {
-        self.writers.push(row)?;
+        let log = log_path(row.host, row.id);
+        self.writers.push(Writer { row, log })?;
         Ok(())
     }
 

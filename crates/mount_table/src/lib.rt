@@ -24,6 +24,7 @@ mod roster;
 mod scanning;
 mod stages;
 mod telling;
+mod writer;
 mod writing;
 
 pub use holding::{truncate_check, truncate_stamp};

@@ -26,7 +26,7 @@ impl Roster {
         ensures { result ≡ alive_refusal (bare self.now) writer }
     {
         let place = place_of(&self.writers, writer)?;
-        if Stages::Live.has(self.writers[place].stage) {
+        if Stages::Live.has(self.writers[place].row().stage) {
             Some(Refusal::Alive)
         } else {
             None

@@ -3,6 +3,7 @@ ghost use Rattle.std.specs.Prelude.{◌≡◌, ◌<◌, ◌≤◌, length, Some,
 ghost use Rattle.plfs_types.specs.declared.limits.TheConstants.{MAX_STAMP};
 ghost use Rattle.mount_model.specs.Table.{writer_of, at_stage};
 ghost use Rattle.mount_model.specs.State.{put, take_out};
+ghost use Rattle.mount_model.specs.Paths.{log_path};
 ghost use Rattle.mount_model.specs.Regular.{IsCounted};
 ghost use Rattle.mount_model.specs.Flooring.{floored};
 ghost use Rattle.mount_model.specs.Writing.{wrote};
@@ -15,8 +16,9 @@ ghost use Rattle.mount_table.specs.Standing.{AtPlace};
 
 use crate::places::find;
 use crate::stages::Stages;
+use crate::writer::Writer;
 use mount_model::{Flattening, Holder, Row, Stage};
-use plfs_types::Entry;
+use plfs_types::{Entry, Path};
 use std::alloc::Global;
 use std::marker::Model;
 
@@ -26,7 +28,7 @@ pub struct Roster {
     pub(crate) marks: u64,
     pub(crate) mount: u32,
     pub(crate) serial: u32,
-    pub(crate) writers: Vec<Row>,
+    pub(crate) writers: Vec<Writer>,
     pub(crate) holders: Vec<Holder>,
     pub(crate) flattenings: Vec<Flattening>,
 }
@@ -95,7 +97,15 @@ impl Roster {
         ensures same { slice_get self.now.table.writers place ≡ Some result.now }
         ensures counted { IsCounted result.now }
     {
-        &self.writers[place]
+        self.writers[place].row()
+    }
+
+    /// Where the log of the writer at this place lies.
+    pub fn log(&self, place: usize) -> &Path
+        requires { place < length self.now.table.writers }
+        ensures { AtPlace self.now.table place (λ row. result.now ≡ log_path row.host row.id) }
+    {
+        self.writers[place].log()
     }
 
     /// Puts the row at this place into another stage.
@@ -103,7 +113,8 @@ impl Roster {
         requires { place < length self.old.table.writers }
         ensures { AtPlace self.old.table place (λ row. self.new ≡ with_table (put (at_stage stage row) self.old.table) self.old) }
     {
-        self.writers[place].stage = stage;
+        let writer = &mut self.writers[place];
+        writer.row.stage = stage;
     }
 
     /// Sets the floor of the writer at this place.
@@ -112,9 +123,9 @@ impl Roster {
         requires fits { floor ≤ MAX_STAMP }
         ensures { AtPlace self.old.table place (λ row. self.new ≡ with_table (put (floored floor row) self.old.table) self.old) }
     {
-        let row = &mut self.writers[place];
-        row.floor = floor;
-        row.stage = Stage::Floored;
+        let writer = &mut self.writers[place];
+        writer.row.floor = floor;
+        writer.row.stage = Stage::Floored;
     }
 
     /// Notes that the metadata dropping of the writer at this place is there.
@@ -122,9 +133,9 @@ impl Roster {
         requires { place < length self.old.table.writers }
         ensures { AtPlace self.old.table place (λ row. self.new ≡ with_table (put (closed row) self.old.table) self.old) }
     {
-        let row = &mut self.writers[place];
-        row.has_meta = true;
-        row.stage = Stage::Closing;
+        let writer = &mut self.writers[place];
+        writer.row.has_meta = true;
+        writer.row.stage = Stage::Closing;
     }
 
     /// Notes that all that the writer at this place stored is synced.
@@ -132,8 +143,8 @@ impl Roster {
         requires { place < length self.old.table.writers }
         ensures { AtPlace self.old.table place (λ row. self.new ≡ with_table (put (log_synced row) self.old.table) self.old) }
     {
-        let row = &mut self.writers[place];
-        row.log_mark = row.stored;
+        let writer = &mut self.writers[place];
+        writer.row.log_mark = writer.row.stored;
     }
 
     /// Notes that all entries that landed of the writer at this place are synced: how many they are.
@@ -142,9 +153,9 @@ impl Roster {
         ensures count { AtPlace self.old.table place (λ row. result ≡ row.landed) }
         ensures left { AtPlace self.old.table place (λ row. self.new ≡ with_table (put (index_synced row) self.old.table) self.old) }
     {
-        let row = &mut self.writers[place];
-        row.index_mark = row.landed;
-        row.landed
+        let writer = &mut self.writers[place];
+        writer.row.index_mark = writer.row.landed;
+        writer.row.landed
     }
 
     /// Keeps the entry of a write of so many bytes from the logical place `at` on.
@@ -154,18 +165,18 @@ impl Roster {
         requires stamped { AtPlace self.old.table place (λ row. IsStampFor row stamp) }
         ensures { AtPlace self.old.table place (λ row. self.new ≡ with_table (put (wrote stamp row at len) self.old.table) self.old) }
     {
-        let row = &mut self.writers[place];
+        let writer = &mut self.writers[place];
         let entry = Entry {
             at,
             len,
-            physical: row.stored,
+            physical: writer.row.stored,
             stamp,
-            writer: row.id,
+            writer: writer.row.id,
         };
-        row.pending.push(&entry);
-        row.last = stamp;
-        row.stored += len;
-        row.end = row.end.max(at + len);
+        writer.row.pending.push(&entry);
+        writer.row.last = stamp;
+        writer.row.stored += len;
+        writer.row.end = writer.row.end.max(at + len);
     }
 
     /// Counts the pending entries of the writer at this place as landed: how many have landed then.
@@ -174,10 +185,10 @@ impl Roster {
         ensures count { AtPlace self.old.table place (λ row. result ≡ (flushed row).landed) }
         ensures left { AtPlace self.old.table place (λ row. self.new ≡ with_table (put (flushed row) self.old.table) self.old) }
     {
-        let row = &mut self.writers[place];
-        let landed = row.landed + row.pending.pending();
-        row.landed = landed;
-        row.pending.clear();
+        let writer = &mut self.writers[place];
+        let landed = writer.row.landed + writer.row.pending.pending();
+        writer.row.landed = landed;
+        writer.row.pending.clear();
         landed
     }
 

@@ -1,6 +1,5 @@
 //! Whether a writer may write, its next stamp, and what comes of a write to its log.
 ghost use Rattle.std.specs.Prelude.{◌≡◌, ◌<◌, length};
-ghost use Rattle.mount_model.specs.Paths.{log_path as log_path_of};
 ghost use Rattle.mount_model.specs.Writing.{write_check as write_refusal, stamp_at as stamp_of, write_outcome};
 ghost use Rattle.mount_table.specs.Settling.{IsSettled};
 ghost use Rattle.mount_table.specs.Writable.{MayTake, IsStampFor};
@@ -9,7 +8,7 @@ ghost use Rattle.mount_table.specs.Standing.{AtPlace};
 use crate::roster::Roster;
 use crate::telling::otherwise;
 use mount_model::{Refusal, Reply, Row};
-use plfs_types::{MAX_LOG, MAX_SIZE, MAX_STAMP, MAX_TIME, Path};
+use plfs_types::{MAX_LOG, MAX_SIZE, MAX_STAMP, MAX_TIME};
 use store_api::{Answer, Trouble};
 
 /// Why the writer may not write so many bytes from this place on.
@@ -40,20 +39,18 @@ pub fn stamp_at(time: u64, row: &Row) -> u64
 }
 
 impl Roster {
-    /// Settles the write of so many bytes to the log at this path.
+    /// Settles the write of so many bytes to the writer's log.
     pub fn logged(
         &mut self,
         place: usize,
         stamp: u64,
         at: u64,
         len: u64,
-        log: &Path,
         told: Result<Answer, Trouble>,
     ) -> Reply
         requires within { place < length self.old.table.writers }
         requires fine { AtPlace self.old.table place (λ row. MayTake row at len) }
         requires stamped { AtPlace self.old.table place (λ row. IsStampFor row stamp) }
-        requires of_writer { AtPlace self.old.table place (λ row. log.now ≡ log_path_of row.host row.id) }
         ensures { AtPlace self.old.table place (λ row. IsSettled (write_outcome stamp row at len self.old.table told) self.old result self.new) }
     {
         match told {
@@ -61,8 +58,7 @@ impl Roster {
                 self.keep_entry(place, stamp, at, len);
                 Reply::Wrote { stamp }
             }
-            Ok(answer) => otherwise(log, Ok(answer)),
-            Err(trouble) => otherwise(log, Err(trouble)),
+            _ => otherwise(self.log(place), told),
         }
     }
 }

@@ -19,7 +19,7 @@ use crate::entries::list_files;
 use crate::exporting::obey_export;
 use crate::reading::{copies_the_input, read_input};
 use crate::serving::obey_serve;
-use crate::task::{Task, run, writes_whole_files};
+use crate::task::{Task, run, starts_threads, writes_whole_files};
 use crate::telling::{
     starved, tell_denied, tell_ran, tell_unlisted, tell_unopened, tell_unread, unread, usage,
 };
@@ -37,8 +37,9 @@ use std::sync::Wait;
 use std::thread::Threads;
 use store_folder::FolderStore;
 use system_edge::{
-    Called, INPUT, MOST_FOLDERS, Program, Standard, are_named, folders_of, lock_folders, look_at,
-    open_files, program_called, read_ahead, read_called, split_from, stores_of,
+    Called, INPUT, MOST_FOLDERS, Program, Standard, are_named, folders_of, lengthen_table,
+    lock_folders, look_at, open_files, program_called, read_ahead, read_called, split_from,
+    stores_of,
 };
 
 /// Reads the words, the first of which is the folder, and ends with the status of their command. A standard stream
@@ -272,6 +273,9 @@ fn serve<H: Threads + Wait + Sync + Copy + Send + 'static>(
         Ok(locks) => locks,
         Err(denied) => return tell_denied(&rt, folders, denied, standard),
     };
+    if starts_threads(task) {
+        lengthen_table(&rt);
+    }
     let code = if folders.len() > 1 {
         serve_several(handle, rt, root, folders, task, standard)
     } else {

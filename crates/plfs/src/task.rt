@@ -142,6 +142,16 @@ pub fn writes_whole_files(task: &Task<'_>) -> bool {
     }
 }
 
+/// Whether threads may be at work beside the one that runs the command.
+pub fn starts_threads(task: &Task<'_>) -> bool {
+    match task {
+        Task::Plfs { command, .. } => matches!(command, Command::Run | Command::Cat { .. }),
+        Task::Serve { .. } => true,
+        Task::Copy { .. } | Task::Export { .. } => writes_whole_files(task),
+        Task::Import { .. } | Task::Check { .. } | Task::Drain { .. } => false,
+    }
+}
+
 // How many bytes standard input has, or the files in its place.
 fn copied_length(rt: &HostRuntime, files: &[Word], opened: &RefCell<Vec<File>>) -> u64 {
     if files.is_empty() {

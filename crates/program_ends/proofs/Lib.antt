@@ -2,4 +2,5 @@ pub mod Facts
 mod Leaving
 mod Mounts
 mod OutputLemmas
+mod Statuses
 mod Unmounted

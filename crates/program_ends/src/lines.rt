@@ -1,73 +1,37 @@
 //! Lines are printed, and decide a status.
 ghost use Rattle.std.specs.Prelude.{◌≡◌, ◌⊎◌, ◌∷◌, []};
 ghost use Rattle.report_text.specs.Text.{HaveText, text_of};
-ghost use Rattle.program_ends.specs.Outcomes.{has_line, is_damage, is_fault, is_refusal, status_of as status};
+ghost use Rattle.program_ends.specs.Outcomes.{status_of as status};
 ghost use Rattle.program_ends.specs.Output.{IsPrinted, IsCutOff};
 
 use crate::output::write_out;
+use crate::words::greater;
 use edge_io::Sink;
 use report_text::print;
-use script_lang::{CompactLine, Line, Lines, Outcome};
+use script_lang::{CompactLine, Line, Lines, Mishap};
 use std::alloc::Global;
 
-fn is_fault(line: &CompactLine) -> bool
-    ensures { result ≡ is_fault line.now.outcome }
+// The status of a run with this line alone.
+fn status_of_line(line: &CompactLine) -> u8
+    ensures { result ≡ status (line.now ∷ []) }
 {
-    let seen = line.seen();
-    let found = matches!(seen.outcome(), Outcome::Fault);
-    drop(seen);
-    found
-}
-
-fn is_damage(line: &CompactLine) -> bool
-    ensures { result ≡ is_damage line.now.outcome }
-{
-    let seen = line.seen();
-    let found = matches!(seen.outcome(), Outcome::Damaged { .. });
-    drop(seen);
-    found
-}
-
-fn is_refusal(line: &CompactLine) -> bool
-    ensures { result ≡ is_refusal line.now.outcome }
-{
-    let seen = line.seen();
-    let found = matches!(seen.outcome(), Outcome::Refused { .. });
-    drop(seen);
-    found
-}
-
-fn has_fault(lines: &[CompactLine]) -> bool
-    ensures { result ≡ has_line is_fault lines.now }
-{
-    lines.iter().any(|line| is_fault(line))
-}
-
-fn has_damage(lines: &[CompactLine]) -> bool
-    ensures { result ≡ has_line is_damage lines.now }
-{
-    lines.iter().any(|line| is_damage(line))
-}
-
-fn has_refusal(lines: &[CompactLine]) -> bool
-    ensures { result ≡ has_line is_refusal lines.now }
-{
-    lines.iter().any(|line| is_refusal(line))
+    match line.mishap() {
+        Some(Mishap::Damaged) => 7,
+        Some(Mishap::Fault) => 4,
+        Some(Mishap::Refused) => 1,
+        None => 0,
+    }
 }
 
 /// The status of a run with these lines.
 pub fn status_of(lines: &[CompactLine]) -> u8
     ensures { result ≡ status lines.now }
 {
-    if has_damage(lines) {
-        7
-    } else if has_fault(lines) {
-        4
-    } else if has_refusal(lines) {
-        1
-    } else {
-        0
+    let mut status = 0;
+    for line in lines {
+        status = greater(status, status_of_line(line));
     }
+    status
 }
 
 /// Prints the lines, and answers the status that they decide: 6 where the sink broke, 3 where memory was refused.

@@ -9,4 +9,5 @@ pub mod Joined
 pub mod Lines
 pub mod Loops
 pub mod Numbers
+pub mod Tails
 pub mod Texts

@@ -12,6 +12,7 @@ mod reading;
 mod reading_items;
 mod reading_names;
 mod reading_outcomes;
+mod tail;
 mod trouble;
 mod words;
 

@@ -1,7 +1,10 @@
 -- What lists keep of statements and lines.
-use Rattle.std.specs.Prelude.{Some}
+use Rattle.std.specs.Prelude.{Option, Some, None}
 use Rattle.script_lang.specs.declared.line.Outcome.{Outcome}
 use Rattle.script_lang.specs.declared.line.Outcome.TheVariants as outcome
+use Rattle.script_lang.specs.declared.line.Mishap.{Mishap}
+use Rattle.script_lang.specs.declared.line.Mishap.TheVariants as mishap
+use Rattle.script_lang.specs.declared.line.MadeWrite.{MadeWrite}
 use Rattle.script_lang.specs.declared.line_list.Brief.{Brief}
 use Rattle.script_lang.specs.declared.line_list.Brief.TheVariants as brief
 use Rattle.script_lang.specs.declared.line_list.KeptOutcome.{KeptOutcome}
@@ -52,3 +55,15 @@ outcome_kept (Long kept) = kept.value
 abbrev pub outcome_seen : Seen → Outcome
 outcome_seen (Made made) = made
 outcome_seen (Lent lent) = lent.now
+
+-- what went wrong with a statement, if anything did
+abbrev pub mishap_of : Outcome → Option Mishap
+mishap_of (outcome.Refused why) = Some mishap.Refused
+mishap_of outcome.Fault = Some mishap.Fault
+mishap_of (outcome.Damaged folder file place) = Some mishap.Damaged
+mishap_of _ = None
+
+-- the write that was made, if it was one and it has a stamp
+abbrev pub made_write_of : Outcome → Option MadeWrite
+made_write_of (outcome.Wrote at len (Some stamp)) = Some (record { at = at; len = len; stamp = stamp })
+made_write_of _ = None

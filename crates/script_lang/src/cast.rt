@@ -3,6 +3,7 @@ ghost use Rattle.std.specs.Prelude.{◌≡◌, ◌++◌, ◌∷◌, [], None, le
 ghost use Rattle.script_lang.specs.Names.{actor_place};
 
 use crate::script::{ActorDecl, ActorList};
+use crate::words::is_word;
 use indexmap::IndexMap;
 use plfs_types::NoMemory;
 use std::alloc::{AllocError, Global};
@@ -24,6 +25,19 @@ impl Model for Cast {
     ghost view = { λ c. values c.table };
 
     ghost invariant = { λ c. map (λ e. e.0.items) c.table.entries ≡ map (λ e. e.1.name) c.table.entries };
+}
+
+// So many actors are sooner looked through than looked up.
+const FEW: usize = 4;
+
+// The place of the first actor of this name.
+fn place_among(actors: &[ActorDecl], name: &[u8]) -> Option<usize>
+    ensures place { result ≡ actor_place actors.now name.now }
+    ensures within { IfSome result (λ place. place < length actors.now) }
+{
+    actors
+        .iter()
+        .position(|actor| is_word(name, actor.name.bytes()))
 }
 
 impl Cast {
@@ -48,6 +62,12 @@ impl Cast {
         ensures place { result ≡ actor_place self.now name.now }
         ensures within { IfSome result (λ place. place < length self.now) }
     {
+        if self.table.len() <= FEW {
+            return match place_among(self.table.values().as_slice(), name) {
+                Some(among) => Some(among as u64),
+                None => None,
+            };
+        }
         match self.table.get_index_of(name) {
             Some(place) => Some(place as u64),
             None => None,

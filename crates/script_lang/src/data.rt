@@ -12,7 +12,7 @@ use crate::flaw::Flaw;
 use crate::numbers::number_in;
 use crate::script::Data;
 use crate::trouble::Kind;
-use crate::words::place_of_byte;
+use crate::words::{begins_with, place_of_byte};
 use hex::FromHexError;
 use plfs_types::Bytes;
 use std::alloc::Global;
@@ -101,10 +101,10 @@ fn counted_data(word: &[u8]) -> Result<Data, Kind>
     ensures given { result ≡ counted_data word.now }
     ensures fits { IfOk result FitsData }
 {
-    if word.starts_with(b"fill:") {
+    if begins_with(word, b"fill:") {
         return fill_data(&word[5..]);
     }
-    if word.starts_with(b"ramp:") {
+    if begins_with(word, b"ramp:") {
         return ramp_data(&word[5..]);
     }
     Err(Kind::Data)
@@ -116,10 +116,10 @@ pub(crate) fn data_in(alloc: Global, word: &[u8]) -> Result<Data, Flaw>
     ensures given { GivesAsRead result (data_in word.now) }
     ensures fits { IfOk result FitsData }
 {
-    if word.starts_with(b"hex:") {
+    if begins_with(word, b"hex:") {
         return hex_data(alloc, &word[4..]);
     }
-    if word.starts_with(b"text:") {
+    if begins_with(word, b"text:") {
         return text_data(alloc, &word[5..]);
     }
     Ok(counted_data(word)?)

@@ -22,7 +22,7 @@ mod verb;
 mod words;
 
 pub use generated::generate;
-pub use line::{Line, MapText, Outcome, Why};
+pub use line::{Line, MadeWrite, MapText, Mishap, Outcome, Why};
 pub use line_list::{CompactLine, LineList, Lines, Seen};
 pub use script::{
     ActorDecl, ActorList, Data, Numbered, Phase, PhaseList, Script, Statement, TurnList, Turned,

@@ -1,8 +1,8 @@
 //! Lists of lines, which take few bytes for most of them.
 ghost use Rattle.std.specs.Prelude.{◌≡◌, ◌++◌, ◌∷◌, [], IfOk, OnOk, OnErr};
-ghost use Rattle.script_lang.specs.Compact.{brief_outcome, outcome_kept, outcome_seen};
+ghost use Rattle.script_lang.specs.Compact.{brief_outcome, made_write_of, mishap_of, outcome_kept, outcome_seen};
 
-use crate::line::{Line, Outcome, Why};
+use crate::line::{Line, MadeWrite, Mishap, Outcome, Why};
 use plfs_types::NoMemory;
 use std::alloc::Global;
 use std::marker::Model;
@@ -110,6 +110,36 @@ impl Brief {
     }
 }
 
+// What went wrong, if anything did.
+fn mishap_in(outcome: &Outcome) -> Option<Mishap>
+    ensures { result ≡ mishap_of outcome.now }
+{
+    match outcome {
+        Outcome::Refused { .. } => Some(Mishap::Refused),
+        Outcome::Fault => Some(Mishap::Fault),
+        Outcome::Damaged { .. } => Some(Mishap::Damaged),
+        _ => None,
+    }
+}
+
+// The write, if it was one and has a stamp.
+fn write_in(outcome: &Outcome) -> Option<MadeWrite>
+    ensures { result ≡ made_write_of outcome.now }
+{
+    match outcome {
+        Outcome::Wrote {
+            at,
+            len,
+            stamp: Some(stamp),
+        } => Some(MadeWrite {
+            at: *at,
+            len: *len,
+            stamp: *stamp,
+        }),
+        _ => None,
+    }
+}
+
 impl<'a> Seen<'a> {
     /// The outcome.
     pub fn outcome(&self) -> &Outcome
@@ -146,6 +176,33 @@ impl CompactLine {
         match &self.outcome {
             KeptOutcome::Brief(brief) => Seen::Made(brief.outcome()),
             KeptOutcome::Apart(outcome) => Seen::Lent(outcome),
+        }
+    }
+
+    /// What went wrong with the statement, if anything did. It makes no outcome for this look.
+    pub fn mishap(&self) -> Option<Mishap>
+        ensures { result ≡ mishap_of self.now.outcome }
+    {
+        match &self.outcome {
+            KeptOutcome::Brief(Brief::Refused { .. }) => Some(Mishap::Refused),
+            KeptOutcome::Brief(Brief::Fault) => Some(Mishap::Fault),
+            KeptOutcome::Brief(_) => None,
+            KeptOutcome::Apart(outcome) => mishap_in(outcome),
+        }
+    }
+
+    /// The write that was made, if the statement was one and it has a stamp. It makes no outcome for this look.
+    pub fn made_write(&self) -> Option<MadeWrite>
+        ensures { result ≡ made_write_of self.now.outcome }
+    {
+        match &self.outcome {
+            KeptOutcome::Brief(Brief::Wrote { at, len, stamp }) => Some(MadeWrite {
+                at: *at,
+                len: *len,
+                stamp: *stamp,
+            }),
+            KeptOutcome::Brief(_) => None,
+            KeptOutcome::Apart(outcome) => write_in(outcome),
         }
     }
 }

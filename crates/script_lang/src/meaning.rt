@@ -15,7 +15,7 @@ use crate::script::{ActorDecl, Statement, Turned};
 use crate::statement::statement;
 use crate::trouble::Kind;
 use crate::verb::{Verb, has_words, verb_of};
-use crate::words::Words;
+use crate::words::{Words, is_word};
 use plfs_types::Name;
 use std::alloc::Global;
 
@@ -186,13 +186,13 @@ pub(crate) fn meaning_of(
     ensures said { GivesAsRead result (meaning_of cast.now begun reads (shown words.now)) }
     ensures fit { IfOk result (IsFit cast.now begun) }
 {
-    if words.first == b"actor".as_slice() {
+    if is_word(words.first, b"actor") {
         return Ok(declaration(cast, begun, words)?);
     }
-    if words.first == b"phase".as_slice() {
+    if is_word(words.first, b"phase") {
         return Ok(beginning(words)?);
     }
-    if words.first == b"turn".as_slice() {
+    if is_word(words.first, b"turn") {
         return Ok(turning(cast, words)?);
     }
     saying(alloc, cast, reads, words)

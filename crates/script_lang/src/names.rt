@@ -4,6 +4,7 @@ ghost use Rattle.std.specs.List.{list_all};
 ghost use Rattle.script_lang.specs.Names.{file_name, is_lower_letter, is_actor_byte, is_keyword, is_actor_name};
 
 use crate::trouble::Kind;
+use crate::words::is_word;
 use plfs_types::LogicalName;
 
 // The name of a file that a word is.
@@ -31,7 +32,7 @@ fn is_actor_byte(byte: u8) -> bool
 fn is_keyword(word: &[u8]) -> bool
     ensures { result ≡ is_keyword word.now }
 {
-    word == b"actor".as_slice() || word == b"phase".as_slice() || word == b"turn".as_slice()
+    is_word(word, b"actor") || is_word(word, b"phase") || is_word(word, b"turn")
 }
 
 fn are_actor_bytes(word: &[u8]) -> bool

@@ -3,6 +3,8 @@ ghost use Rattle.std.specs.Prelude.{◌≡◌, codes};
 ghost use Rattle.script_lang.specs.Names.{is_word};
 ghost use Rattle.script_lang.specs.Verbs.{writer_verb, reader_verb, asking_verb, changing_verb, verb_of, most_words, least_words, has_words};
 
+use crate::words::is_word;
+
 // What a statement does.
 #[derive(Clone, Copy, PartialEq, Eq)]
 pub(crate) enum Verb {
@@ -28,16 +30,16 @@ pub(crate) enum Verb {
 fn writer_verb(word: &[u8]) -> Option<Verb>
     ensures { result ≡ writer_verb word.now }
 {
-    if word == b"open".as_slice() {
+    if is_word(word, b"open") {
         return Some(Verb::Open);
     }
-    if word == b"write".as_slice() {
+    if is_word(word, b"write") {
         return Some(Verb::Write);
     }
-    if word == b"sync".as_slice() {
+    if is_word(word, b"sync") {
         return Some(Verb::Sync);
     }
-    if word == b"close".as_slice() {
+    if is_word(word, b"close") {
         return Some(Verb::Close);
     }
     None
@@ -46,22 +48,22 @@ fn writer_verb(word: &[u8]) -> Option<Verb>
 fn reader_verb(word: &[u8]) -> Option<Verb>
     ensures { result ≡ reader_verb word.now }
 {
-    if word == b"ropen".as_slice() {
+    if is_word(word, b"ropen") {
         return Some(Verb::Ropen);
     }
-    if word == b"read".as_slice() {
+    if is_word(word, b"read") {
         return Some(Verb::Read);
     }
-    if word == b"verify".as_slice() {
+    if is_word(word, b"verify") {
         return Some(Verb::Verify);
     }
-    if word == b"map".as_slice() {
+    if is_word(word, b"map") {
         return Some(Verb::Map);
     }
-    if word == b"refresh".as_slice() {
+    if is_word(word, b"refresh") {
         return Some(Verb::Refresh);
     }
-    if word == b"rclose".as_slice() {
+    if is_word(word, b"rclose") {
         return Some(Verb::Rclose);
     }
     None
@@ -70,16 +72,16 @@ fn reader_verb(word: &[u8]) -> Option<Verb>
 fn asking_verb(word: &[u8]) -> Option<Verb>
     ensures { result ≡ asking_verb word.now }
 {
-    if word == b"stat".as_slice() {
+    if is_word(word, b"stat") {
         return Some(Verb::Stat);
     }
-    if word == b"flatten".as_slice() {
+    if is_word(word, b"flatten") {
         return Some(Verb::Flatten);
     }
-    if word == b"recover".as_slice() {
+    if is_word(word, b"recover") {
         return Some(Verb::Recover);
     }
-    if word == b"ls".as_slice() {
+    if is_word(word, b"ls") {
         return Some(Verb::Ls);
     }
     None
@@ -88,13 +90,13 @@ fn asking_verb(word: &[u8]) -> Option<Verb>
 fn changing_verb(word: &[u8]) -> Option<Verb>
     ensures { result ≡ changing_verb word.now }
 {
-    if word == b"trunc".as_slice() {
+    if is_word(word, b"trunc") {
         return Some(Verb::Trunc);
     }
-    if word == b"rename".as_slice() {
+    if is_word(word, b"rename") {
         return Some(Verb::Rename);
     }
-    if word == b"stop".as_slice() {
+    if is_word(word, b"stop") {
         return Some(Verb::Stop);
     }
     None

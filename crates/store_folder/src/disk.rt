@@ -36,13 +36,15 @@ impl<C: Calls<File = F> + Drop, F: Drop> Disk<C, F> {
         ensures none_own { IfOk result (λ disk. (key : FileKey) → is_own disk.own key ≡ false) }
         ensures memory { IfErr result (λ failure. failure ≡ Failure.NoMemory) }
     {
+        let root = String::from_str(alloc, root.as_str())?;
+        let open = OpenFiles::new(alloc, most)?;
         Ok(Disk {
             calls,
             alloc,
-            root: String::from_str(alloc, root.as_str())?,
+            root,
             rooms: Vec::new(alloc),
             is_numbered: false,
-            open: OpenFiles::new(alloc, most)?,
+            open,
             own: OwnFiles::new(alloc),
         })
     }
@@ -111,7 +113,7 @@ impl<C: Calls<File = F> + Drop, F: Drop> Disk<C, F> {
 fn file_of(step: &Step<'_>) -> Option<FileKey>
     ensures { result ≡ file_of (step_of step.now) }
 {
-    match *step {
+    match step {
         Step::Length { room, folder, file }
         | Step::ReadAt {
             room,
@@ -131,7 +133,11 @@ fn file_of(step: &Step<'_>) -> Option<FileKey>
             file,
             ..
         }
-        | Step::Sync { room, folder, file } => Some(FileKey { room, folder, file }),
+        | Step::Sync { room, folder, file } => Some(FileKey {
+            room: *room,
+            folder: *folder,
+            file: *file,
+        }),
         _ => None,
     }
 }

@@ -89,7 +89,7 @@ impl<R: System> StoreByCalls<SystemCalls<R>, File> {
         ensures none_own { IfOk result (λ store. (key : FileKey) → is_own store.disk.own key ≡ false) }
         ensures none_doubted { IfOk result (λ store. (item : Item) → doubt_of store.doubts item ≡ None) }
     {
-        keep_freed(alloc);
+        keep_freed(alloc, KEPT);
         StoreByCalls::keeping(SystemCalls::new(rt), alloc, root, share_of(limit, stores))
     }
 
@@ -103,6 +103,7 @@ impl<R: System> StoreByCalls<SystemCalls<R>, File> {
         ensures files { (self.new.disk.open ≡ self.old.disk.open) × (self.new.disk.own ≡ self.old.disk.own) }
         ensures rooms { (self.new.disk.rooms ≡ self.old.disk.rooms) × (self.new.disk.is_numbered ≡ self.old.disk.is_numbered) }
     {
+        keep_freed(self.disk.alloc, KEPT_AHEAD);
         self.disk.calls.read_ahead_by(self.disk.alloc, shared);
     }
 }
@@ -110,15 +111,18 @@ impl<R: System> StoreByCalls<SystemCalls<R>, File> {
 /// How many files a store keeps open by calls that tell no limit.
 const FEW: u64 = 256;
 
-/// Four times as many bytes as are read at once of an index, or of a file that is written out.
-const KEPT: usize = 4_194_304;
+/// More than any block that is soon wanted again, but for those of whole files.
+const KEPT: usize = 1 << 19;
+
+/// Four times as many bytes as are read at once of a file that is written out.
+const KEPT_AHEAD: usize = 1 << 22;
 
 // Takes that much memory and frees it, untouched. From then on the allocator of Linux's C library keeps what is freed, up
-// to twice as much. Before, it gives the memory of each larger read back to the system, which clears it page by page. It counts
-// for time alone: no contract sees it.
+// to twice as much. Before, it gives the memory of each larger read back to the system, which clears it page by page. Much of it
+// would stay with the program while it opens a large container. It counts for time and memory alone: no contract sees it.
 #[inline(never)]
-fn keep_freed(alloc: Global) {
-    let kept: Result<Vec<u8>, AllocError> = Vec::with_capacity(alloc, KEPT);
+fn keep_freed(alloc: Global, bytes: usize) {
+    let kept: Result<Vec<u8>, AllocError> = Vec::with_capacity(alloc, bytes);
     drop(kept);
 }
 

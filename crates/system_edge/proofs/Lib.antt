@@ -1,3 +1,5 @@
 mod FolderPaths
 mod Holders
 mod Left
+mod Remembering
+mod Texts

@@ -6,6 +6,7 @@
 
 mod amount;
 mod called;
+mod descriptors;
 mod folders;
 mod inputs;
 mod lock;
@@ -18,6 +19,7 @@ mod standard;
 
 pub use amount::{Amount, file_length, files_length, hundredths, input_length};
 pub use called::{Called, Program, read_called};
+pub use descriptors::lengthen_table;
 pub use folders::{MOST_FOLDERS, Stores, are_named, failed, folders_of, read_ahead, stores_of};
 pub use inputs::{Files, Input, Unopened, open_files, split_from};
 pub use lock::{Denial, Denied, Locks, lock_folders};

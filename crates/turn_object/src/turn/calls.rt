@@ -116,7 +116,7 @@ impl<O: Object> Turn<O> {
         self.wait_for_turn(rt, seat, ticket);
         let number = number.unwrap_or(ticket);
         let reply = self.serve(seat, ticket, number, ask);
-        self.entrance.leave();
+        self.entrance.leave(rt);
         (reply, number)
     }
 

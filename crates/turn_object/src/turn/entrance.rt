@@ -10,9 +10,12 @@ const LOOKS: u32 = 4000;
 
 const LOOKS_A_YIELD: u32 = 100;
 
+// What a sleeper counts that was told to wake, and has not come yet. One that was not told counts 1.
+const COMING: u64 = 1 << 32;
+
 /// Lets one caller in at a time. Of those that wait one looks, again and again, whether nobody is inside; the others sleep. Nobody is woken while one looks, so that
 /// callers of short calls come in one after the other without the system's help; and who comes back soon may be let in before one that sleeps, since nobody
-/// would be inside until the sleeper is awake.
+/// would be inside until the sleeper is awake. While one that was told to wake has not come, no other is told.
 #[derive(Drop)]
 pub(crate) struct Entrance {
     is_taken: AtomicBool,
@@ -43,11 +46,10 @@ impl Entrance {
         unreachable!()
     }
 
-    /// Goes out, and wakes one of those that sleep unless another looks.
-    pub(crate) fn leave(&self) {
+    /// Goes out, and tells one of those that sleep to wake, unless another looks or one is coming.
+    pub(crate) fn leave<W: Wait>(&self, rt: &W) {
         self.is_taken.store(false, Ordering::SeqCst);
-        let sleepers = self.sleepers.load(Ordering::SeqCst);
-        if sleepers != 0 && !self.is_watched.load(Ordering::SeqCst) {
+        if !self.is_watched.load(Ordering::SeqCst) && self.tell_one(rt) {
             self.wakes.fetch_add(1, Ordering::SeqCst);
             self.wakes.wake_one();
         }
@@ -79,14 +81,56 @@ impl Entrance {
         has_entered
     }
 
-    // Sleeps until it is woken. Whoever is inside once this caller counts as a sleeper wakes one as it leaves, or another looks, who comes in or counts itself and looks
-    // once more; and a wake after the count was read ends the sleep before it begins.
+    // Sleeps until it is told to wake. Whoever is inside once this caller counts as a sleeper tells one as it leaves, or another looks, who comes in or counts itself and
+    // looks once more; or one is coming, who does the same. A wake after the count was read ends the sleep before it begins.
     fn sleep<W: Wait>(&self, rt: &W) {
-        let wakes = self.wakes.load(Ordering::SeqCst);
         self.sleepers.fetch_add(1, Ordering::SeqCst);
-        if self.is_taken.load(Ordering::SeqCst) {
+        for _ in rt.forever() {
+            let wakes = self.wakes.load(Ordering::SeqCst);
+            let is_free = !self.is_taken.load(Ordering::SeqCst);
+            if self.has_risen(rt, is_free) {
+                return;
+            }
             self.wakes.park(rt, (wakes & 0xffff_ffff) as u32);
         }
-        self.sleepers.fetch_sub(1, Ordering::SeqCst);
+        unreachable!()
+    }
+
+    // Whether one of those that sleep counts as told now. It does where one sleeps and none is coming.
+    fn tell_one<W: Wait>(&self, rt: &W) -> bool {
+        for _ in rt.forever() {
+            let count = self.sleepers.load(Ordering::SeqCst);
+            if count == 0 || COMING <= count {
+                return false;
+            }
+            if self.replace(count, count - 1 + COMING) {
+                return true;
+            }
+        }
+        unreachable!()
+    }
+
+    // Whether a sleeper has stopped counting as one. It does where one was told, and else where nobody is inside.
+    fn has_risen<W: Wait>(&self, rt: &W, is_free: bool) -> bool {
+        for _ in rt.forever() {
+            let count = self.sleepers.load(Ordering::SeqCst);
+            let rest = if COMING <= count {
+                count - COMING
+            } else if is_free && 0 < count {
+                count - 1
+            } else {
+                return false;
+            };
+            if self.replace(count, rest) {
+                return true;
+            }
+        }
+        unreachable!()
+    }
+
+    fn replace(&self, count: u64, with: u64) -> bool {
+        self.sleepers
+            .compare_exchange(count, with, Ordering::SeqCst, Ordering::SeqCst)
+            .is_ok()
     }
 }

@@ -1,4 +1,4 @@
-use Rattle.std.proofs.Common.{refl}
+use Rattle.std.proofs.Common.{refl, sym, ap}
 use Rattle.writer_flow.specs.OpeningStages.{open_standing}
 use Rattle.writer_flow.specs.WritingStages.{write_standing}
 use Rattle.writer_flow.specs.SyncingStages.{sync_standing}
@@ -10,10 +10,11 @@ use Rattle.flatten_core.specs.FlattenStages.{flatten_standing}
 use Rattle.torn_tail.specs.Stages.{recover_standing}
 use Rattle.refresh_index.specs.RefreshStages.{refresh_standing}
 use Rattle.actor_core.specs.declared.doing.Doing.TheVariants.{Opening, Writing, Syncing, Closing, Reading, Verifying, Truncating, Renaming, Recovering, Refreshing, Naming, Flattening}
-use Rattle.actor_core.specs.Endings.{opened, wrote, synced, closed, read_from, verified, truncated, renamed, recovered, names_listed, flattened}
+use Rattle.actor_core.specs.Endings.{opened, wrote, synced, closed, read_from, verified, truncated, renamed, recovered, names_listed, flattened, stopped}
 use Rattle.actor_core.specs.Opened.{reader_refreshed}
 use Rattle.actor_core.specs.Naming.{names_standing}
 use Rattle.actor_core.specs.Work.{finishes}
+use Rattle.actor_core.specs.Standings.{ready_of}
 use Rattle.actor_core.proofs.OneMachine.{goes_on}
 use Rattle.actor_core.proofs.machines.asked.Goals as goal
 
@@ -54,7 +55,7 @@ returns-in-Truncating-clause-goes_on c =
 
 pub returns-in-Flattening-clause-goes_on : goal.returns-in-Flattening-clause-goes_on
 returns-in-Flattening-clause-goes_on c =
-    goes_on (flatten_standing c.in-Flattening.flow) (flatten_standing c.next-in-Flattening.new.self) (λ kept left result. finishes (flattened kept result)) c.args.doing.now (Flattening c.in-Flattening.flow) (Flattening c.next-in-Flattening.new.self) c.in-Flattening.is (λ kept stop. refl) (λ kept stop. refl) (λ kept stop. refl) (λ is. is)
+    goes_on (flatten_standing c.deref_mut.result.now) (flatten_standing c.next-in-Flattening.new.self) (λ kept left result. finishes (flattened kept result)) c.args.doing.now (Flattening c.in-Flattening.flow) (Flattening (record c.in-Flattening.flow { value = c.next-in-Flattening.new.self })) c.in-Flattening.is (λ kept stop. ap (λ machine. ready_of (flatten_standing machine) stop (λ left result. finishes (flattened kept result)) (finishes (stopped kept))) (sym c.deref_mut.ensures.value)) (λ kept stop. refl) (λ kept stop. refl) (λ is. is)
     c.next-in-Flattening.result c.next-in-Flattening.ensures.call c.next-in-Flattening.ensures.rest
 
 pub returns-in-Renaming-clause-goes_on : goal.returns-in-Renaming-clause-goes_on
@@ -69,7 +70,7 @@ returns-in-Recovering-clause-goes_on c =
 
 pub returns-in-Refreshing-clause-goes_on : goal.returns-in-Refreshing-clause-goes_on
 returns-in-Refreshing-clause-goes_on c =
-    goes_on (refresh_standing c.in-Refreshing.flow) (refresh_standing c.next-in-Refreshing.new.self) (λ kept left result. finishes (reader_refreshed kept result)) c.args.doing.now (Refreshing c.in-Refreshing.flow) (Refreshing c.next-in-Refreshing.new.self) c.in-Refreshing.is (λ kept stop. refl) (λ kept stop. refl) (λ kept stop. refl) (λ is. is)
+    goes_on (refresh_standing c.deref_mut-in-Refreshing.result.now) (refresh_standing c.next-in-Refreshing.new.self) (λ kept left result. finishes (reader_refreshed kept result)) c.args.doing.now (Refreshing c.in-Refreshing.flow) (Refreshing (record c.in-Refreshing.flow { value = c.next-in-Refreshing.new.self })) c.in-Refreshing.is (λ kept stop. ap (λ machine. ready_of (refresh_standing machine) stop (λ left result. finishes (reader_refreshed kept result)) (finishes (stopped kept))) (sym c.deref_mut-in-Refreshing.ensures.value)) (λ kept stop. refl) (λ kept stop. refl) (λ is. is)
     c.next-in-Refreshing.result c.next-in-Refreshing.ensures.call c.next-in-Refreshing.ensures.rest
 
 pub returns-in-Naming-clause-goes_on : goal.returns-in-Naming-clause-goes_on

@@ -1,56 +1,48 @@
-use Rattle.std.proofs.Common.{◌≡◌, ◌<◌, ◌≤◌, ◌∷◌, ◌++◌, [], List, Some, option_map, option_to_list, subst, sym, ap, ◌∙◌, arith}
+use Rattle.std.proofs.Common.{◌≡◌, ℕ, ◌+◌, ◌-◌, ◌<◌, ◌≤◌, List, Option, take, drop, length, ap, ◌∙◌, sym, subst, arith}
+use Rattle.std.proofs.lemmas.List.{drop-drop, length-drop}
 use Rattle.plain_file.specs.declared.pieces.Piece.{Piece}
-use Rattle.plain_file.specs.Sources.{source_in}
-use Rattle.interval_merge.proofs.SweepLemmas.{EndsFrom-less, IsMerged, IsMerged-gap, IsMerged-piece, both_say, IsLeft-more, IsMerged-done}
-use Rattle.std.proofs.lemmas.List.{append-nil}
+use Rattle.interval_merge.specs.Sweep.{AllEndBy, IsRestFrom}
+use Rattle.interval_merge.proofs.SweepLemmas.{CanLie-part, IsMerged, IsMerged-part, IsLeft-more, IsMerged-done}
 use Rattle.interval_merge.proofs.sweep.merged_runs.Goals as goal
-use Rattle.interval_merge.proofs.sweep.merged_runs.Goals.{in-Some+in_ok-extend, in_default, in-Some-last+in_ok-push, in_default-last}
 
-pub past-left_b-requires-clause-first : goal.past-left_b-requires-clause-first
-past-left_b-requires-clause-first c = EndsFrom-less c.loop-from.left_b.now c.min-until.result c.says_until-q.result.1 (omega arith) c.says_until-q.ensures.first
+pub laid-count-requires-clause-piece : goal.laid-count-requires-clause-piece
+laid-count-requires-clause-piece c =
+    let P : List Piece → Type 0 = λ ps. AllEndBy c.loop-from.from ps in
+    CanLie-part (take c.loop-from.count c.with_room-in-loop-from.new.items.items) c.loop-from.from c.next_part-piece.result.1 c.next_part-piece.result.0
+    (subst P (sym c.in_ok-place-2.ensures.front) c.loop-from.invariant.merged.ends) c.next_part-piece.ensures.holds
 
 pub loop-from-preserved : goal.loop-from-preserved
 loop-from-preserved c =
     let i = c.loop-from.invariant in
-    let from = c.loop-from.from in
-    let until = c.min-until.result in
-    let more : from < until = omega (arith, c.says_until-p.ensures.more, c.says_until-q.ensures.more) in
-    let le : from ≤ until = omega arith in
-    let a = c.args.a.now in
-    let b = c.args.b.now in
-    let both = both_say a b c.loop-from.left_a.now c.loop-from.left_b.now from until c.says_until-p.result.1 c.says_until-q.result.1 c.says_until-p.result.0 c.says_until-q.result.0 c.newer.result
-    c.min-until.ensures i.left_a i.left_b c.says_until-p.ensures c.says_until-q.ensures c.newer.ensures.newer in
+    let a : List Piece = c.args.a.now in
+    let b : List Piece = c.args.b.items in
+    let from : ℕ = c.loop-from.from in
+    let until : ℕ = c.next_part-piece.result.1 in
+    let count : ℕ = c.loop-from.count in
+    let place : ℕ = c.in_ok-place-2.place in
+    let k : ℕ = c.ended_by-place.result in
+    let wide : List Piece = c.with_room-in-loop-from.new.items.items in
+    let new : List Piece = c.laid-count.new.items.items in
+    let left_b : List Piece = c.behind-left_b.result.now in
+    let M : List Piece → Type 0 = λ ps. IsMerged a b ps from in
+    let R : List Piece → Type 0 = λ ps. IsRestFrom b from ps in
+    let S : List Piece → Type 0 = λ ps. IsRestFrom b until ps in
+    let le : from ≤ until = omega (arith, c.next_part-piece.ensures.more) in
+    let rest_b : IsRestFrom b from left_b = subst R (sym (c.behind-left_b.ensures ∙ c.in_ok-place-2.ensures.back)) i.left_b in
+    let next_b : drop (place + k) new ≡ drop k left_b =
+    c.laid-count.ensures.behind (place + k) (omega (arith, c.in_ok-place-2.ensures.room)) ∙ sym (drop-drop k place wide) ∙ ap (drop k) (sym c.behind-left_b.ensures) in
+    let long : length left_b ≡ length wide - place = ap length c.behind-left_b.ensures ∙ length-drop place wide in
     record {
-      merged = elim c.match-newer.branch [
-        | in-Some+in_ok-extend w ↦
-            (let kept = w.extend.new.done in
-            let new : List Piece = kept ++ w.in_ok-extend.field-0 ∷ [] in
-            let P : List Piece → Type 0 = λ ps. IsMerged a b ps until in
-            let e : c.match-newer.done ++ option_to_list c.match-newer.last ≡ new =
-            ap (λ d. d ++ option_to_list c.match-newer.last) w.done-is ∙ ap (λ o. kept ++ option_to_list o) w.last-is in
-            subst P (sym e) (IsMerged-piece a b (c.loop-from.done ++ option_to_list c.loop-from.last) new from until w.part_of.result w.part_of.ensures.at w.part_of.ensures.len more i.merged
-            (λ x h l. both x h l ∙ ap (option_map (source_in x)) w.in-Some.is ∙ ap Some (sym (w.part_of.ensures.says x h))) w.in_ok-extend.ensures))
-        | in_default w ↦
-            (let P : List Piece → Type 0 = λ ps. IsMerged a b ps until in
-            let e : c.match-newer.done ++ option_to_list c.match-newer.last ≡ c.loop-from.done ++ option_to_list c.loop-from.last =
-            ap (λ d. d ++ option_to_list c.match-newer.last) w.done-is ∙ ap (λ o. c.loop-from.done ++ option_to_list o) w.last-is in
-            subst P (sym e) (IsMerged-gap a b (c.loop-from.done ++ option_to_list c.loop-from.last) from until le i.merged
-            (λ x h l. both x h l ∙ ap (option_map (source_in x)) w.in_default.is)))
-      ];
+      merged = IsMerged-part a b (take count wide) (take c.laid-count.result new) c.loop-from.left_a.now left_b from until c.next_part-piece.result.0
+          (subst M (sym c.in_ok-place-2.ensures.front) i.merged) i.left_a rest_b c.next_part-piece.ensures c.laid-count.ensures.lays;
       left_a = IsLeft-more a c.loop-from.left_a.now c.past-left_a.result.now from until le i.left_a c.past-left_a.ensures;
-      left_b = IsLeft-more b c.loop-from.left_b.now c.past-left_b.result.now from until le i.left_b c.past-left_b.ensures;
-      started = elim c.match-newer.branch [
-        | in-Some+in_ok-extend w ↦ (let some_last : c.match-newer.last ≡ Some w.in_ok-extend.field-0 = w.last-is in λ none. absurd (cc))
-        | in_default w ↦ (λ none. w.done-is ∙ i.started (sym w.last-is ∙ none))
-      ];
-      within = omega (arith, c.says_until-p.ensures.within);
+      left_b = subst S (sym next_b) (IsLeft-more b left_b (drop k left_b) from until le rest_b c.ended_by-place.ensures.rest);
+      within = omega (arith, c.next_part-piece.ensures.within);
+      before = omega (arith, c.laid-count.ensures.count, c.in_ok-place-2.ensures.room);
+      there = omega (arith, c.ended_by-place.ensures.within, c.laid-count.ensures.len, c.in_ok-place-2.ensures.within, c.with_room-in-loop-from.new.items.ok.0);
     }
 
 pub returns-clause-newer : goal.returns-clause-newer
 returns-clause-newer c =
-    let left = c.loop-from.done in
-    IsMerged-done c.args.a.now c.args.b.now left c.match-last.done c.loop-from.last c.loop-from.from c.requires.a c.requires.b c.loop-from.invariant.within (omega arith) c.loop-from.invariant.merged
-    (elim c.match-last.branch [
-      | in-Some-last+in_ok-push w ↦ w.done-is ∙ w.in_ok-push.ensures.ok ∙ sym (ap (λ o. left ++ option_to_list o) w.in-Some-last.is)
-      | in_default-last w ↦ w.done-is ∙ sym (append-nil left) ∙ sym (ap (λ o. left ++ option_to_list o) w.in_default-last.is)
-    ])
+    IsMerged-done c.args.a.now c.args.b.items (take c.loop-from.count c.loop-from.items.items) c.from_vec.result c.loop-from.from c.requires.a c.requires.b
+    c.loop-from.invariant.within (omega arith) c.loop-from.invariant.merged (c.from_vec.ensures ∙ c.truncate.ensures.items)

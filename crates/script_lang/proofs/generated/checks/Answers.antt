@@ -1,4 +1,4 @@
-use Rattle.std.proofs.Common.{◌≡◌, ◌%◌, ◌*◌, [], ◌∷◌, ◌++◌, ◌+◌, length, ◌∙◌, arith}
+use Rattle.std.proofs.Common.{◌≡◌, ◌*◌, [], ◌∷◌, ◌++◌, ◌+◌, length, ◌∙◌, arith}
 use Rattle.script_lang.specs.declared.script.Statement.TheVariants.{Ropen, Verify, Stat}
 use Rattle.script_lang.specs.Generated.{file_of, block_place, block, said, on_lines}
 use Rattle.script_lang.proofs.Scripts.GeneratedLemmas.{lines_so_far, says_more, says_last}

@@ -1,4 +1,4 @@
-use Rattle.std.proofs.Common.{◌≡◌, ◌%◌, ◌*◌, [], ◌∷◌, ◌∙◌, refl, arith}
+use Rattle.std.proofs.Common.{[], ◌∙◌, refl, arith}
 use Rattle.script_lang.specs.declared.script.Statement.TheVariants.{Close}
 use Rattle.script_lang.specs.Generated.{said}
 use Rattle.script_lang.proofs.Scripts.GeneratedLemmas.{lines_so_far, says_more}

@@ -1,4 +1,4 @@
-use Rattle.std.proofs.Common.{◌≡◌, ◌%◌, [], ◌∷◌, ◌++◌, map}
+use Rattle.std.proofs.Common.{◌≡◌, map}
 use Rattle.std.specs.List.{range_with_len}
 use Rattle.script_lang.specs.declared.script.Statement.TheVariants.{Close}
 use Rattle.script_lang.specs.Generated.{said, on_lines}

@@ -1,4 +1,4 @@
-use Rattle.std.proofs.Common.{◌≡◌, ◌%◌, ◌*◌, [], ◌∷◌, ◌∙◌, arith}
+use Rattle.std.proofs.Common.{[], ◌∙◌, arith}
 use Rattle.script_lang.specs.declared.script.Statement.TheVariants.{Open}
 use Rattle.script_lang.specs.Generated.{file_of, said}
 use Rattle.script_lang.proofs.Scripts.GeneratedLemmas.{lines_so_far, says_more}

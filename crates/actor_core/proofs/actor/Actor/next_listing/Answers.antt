@@ -1,4 +1,4 @@
-use Rattle.std.proofs.Common.{◌≡◌, [], Option, sym, ◌∙◌, subst, true}
+use Rattle.std.proofs.Common.{◌≡◌, [], Option, sym, ap, ◌∙◌, subst, true}
 use Rattle.std.specs.Prelude.{IfOk, OnOk}
 use Rattle.mount_model.specs.Standing.{ready}
 use Rattle.mount_model.specs.declared.call.Ask.{Ask}
@@ -27,18 +27,18 @@ returns-in-Some-clause-goes_on c =
     ∙ is_out c.args.self.now.number (open_standing c.args.flow) (open_standing c.in_ok-next.next) c.args.self.now.stop (if_listed_for c.args.purpose c.args.self.now.kept) (finishes (stopped c.args.self.now.kept)) c.in-Some.ask
     c.requires.ready (sym c.in-Some.is ∙ c.in_ok-next.ensures.ask) c.in_ok-next.ensures.rest
 
-pub returns-in_ok-gathering-in-Ok-clause-ask : goal.returns-in_ok-gathering-in-Ok-clause-ask
-returns-in_ok-gathering-in-Ok-clause-ask c =
-    let begins : gather_standing c.in_ok-gathering-in-Ok.gathering ≡ ready (shares_from (workers_of c.args.purpose) c.in-Ok.listing 0 []) =
-    c.in_ok-gathering-in-Ok.ensures.standing ∙ (λ i. ready (shares_from (c.workers.ensures i) (c.of.ensures i) 0 [])) in
+pub returns-in_ok-flow-in-Ok-clause-ask : goal.returns-in_ok-flow-in-Ok-clause-ask
+returns-in_ok-flow-in-Ok-clause-ask c =
+    let begins : gather_standing c.in_ok-flow-in-Ok.flow.value ≡ ready (shares_from (workers_of c.args.purpose) c.in-Ok.listing 0 []) =
+    ap gather_standing c.in_ok-flow-in-Ok.ensures.ok ∙ c.in_ok-gathering-in-Ok.ensures.standing ∙ (λ i. ready (shares_from (c.workers.ensures i) (c.of.ensures i) 0 [])) in
     let P : Option Ask → Type 0 = λ next. IfOk c.next_gathering.result (λ ask. ask ≡ next) in
-    subst P (listed_asks c.args.self.now.number c.args.self.now.kept c.args.self.now.stop c.args.purpose (open_standing c.args.flow) (open_standing c.in_ok-next.next) c.in-Ok.listing c.in_ok-gathering-in-Ok.gathering
+    subst P (listed_asks c.args.self.now.number c.args.self.now.kept c.args.self.now.stop c.args.purpose (open_standing c.args.flow) (open_standing c.in_ok-next.next) c.in-Ok.listing c.in_ok-flow-in-Ok.flow.value
     c.requires.ready (sym c.in_default.is ∙ c.in_ok-next.ensures.ask) c.in_ok-next.ensures.rest c.in-Ok.ensures.is begins) c.next_gathering.ensures.ask
 
-pub returns-in_ok-gathering-in-Ok-clause-goes_on : goal.returns-in_ok-gathering-in-Ok-clause-goes_on
-returns-in_ok-gathering-in-Ok-clause-goes_on c =
-    let begins : gather_standing c.in_ok-gathering-in-Ok.gathering ≡ ready (shares_from (workers_of c.args.purpose) c.in-Ok.listing 0 []) =
-    c.in_ok-gathering-in-Ok.ensures.standing ∙ (λ i. ready (shares_from (c.workers.ensures i) (c.of.ensures i) 0 [])) in
+pub returns-in_ok-flow-in-Ok-clause-goes_on : goal.returns-in_ok-flow-in-Ok-clause-goes_on
+returns-in_ok-flow-in-Ok-clause-goes_on c =
+    let begins : gather_standing c.in_ok-flow-in-Ok.flow.value ≡ ready (shares_from (workers_of c.args.purpose) c.in-Ok.listing 0 []) =
+    ap gather_standing c.in_ok-flow-in-Ok.ensures.ok ∙ c.in_ok-gathering-in-Ok.ensures.standing ∙ (λ i. ready (shares_from (c.workers.ensures i) (c.of.ensures i) 0 [])) in
     let P : Progress → Type 0 = λ p. OnOk c.next_gathering.result (progress_of c.next_gathering.new.self ≡ p) in
-    subst P (listed_given c.args.self.now.number c.args.self.now.kept c.args.self.now.stop c.args.purpose (open_standing c.args.flow) (open_standing c.in_ok-next.next) c.in-Ok.listing c.in_ok-gathering-in-Ok.gathering
+    subst P (listed_given c.args.self.now.number c.args.self.now.kept c.args.self.now.stop c.args.purpose (open_standing c.args.flow) (open_standing c.in_ok-next.next) c.in-Ok.listing c.in_ok-flow-in-Ok.flow.value
     c.requires.ready (sym c.in_default.is ∙ c.in_ok-next.ensures.ask) c.in_ok-next.ensures.rest c.in-Ok.ensures.is begins) c.next_gathering.ensures.goes_on

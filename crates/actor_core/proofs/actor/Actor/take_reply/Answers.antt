@@ -10,14 +10,14 @@ use Rattle.actor_core.proofs.actor.Actor.take_reply.Goals as goal
 pub returns-then-is_due-clause-goes_on : goal.returns-then-is_due-clause-goes_on
 returns-then-is_due-clause-goes_on c =
     let was = c.args.self.now in
-    placed c.set.new.self was.number (record was.kept { gone = true }) was.stop (Working (Known Stopped) false)
-    c.set.ensures.state c.set.ensures.kept c.set.ensures.number c.set.ensures.stop
+    placed c.stop_here.new.self was.number (record was.kept { gone = true }) was.stop (Working (Known Stopped) false)
+    c.stop_here.ensures.state c.stop_here.ensures.kept c.stop_here.ensures.number c.stop_here.ensures.stop
     ∙ stops_working was.number was.kept was.stop was.state c.args.reply c.requires.working c.requires.asked (sym c.is_due.ensures ∙ c.if-is_due.true)
 
 pub returns-then-is_due-clause-left : goal.returns-then-is_due-clause-left
 returns-then-is_due-clause-left c =
     let was = c.args.self.now in
-    let none : calls_left c.set.new.self ≡ 0 = ap state_left c.set.ensures.state in
+    let none : calls_left c.stop_here.new.self ≡ 0 = ap state_left c.stop_here.ensures.state in
     let some = some_left_at was.state (call_out was.number was.kept was.stop was.state c.requires.working c.requires.asked) in
     omega (arith, none, some)
 

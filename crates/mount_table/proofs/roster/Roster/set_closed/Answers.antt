@@ -2,15 +2,15 @@ use Rattle.std.proofs.Common.{refl}
 use Rattle.mount_model.specs.Leaving.{closed}
 use Rattle.mount_table.specs.contracts.roster.Roster.{the_view}
 use Rattle.mount_table.proofs.Counts.{closed_counted}
-use Rattle.mount_table.proofs.Rolls.{put_keeps, put_is, counted_at}
+use Rattle.mount_table.proofs.Rolls.{put_keeps, put_is, counted_at, same_row}
 use Rattle.mount_table.proofs.roster.Roster.set_closed.Goals as goal
 
 pub invariant_of-self : goal.invariant_of-self
 invariant_of-self c =
     let roll = the_view c.self.inside in
-    let row = c.index_mut-row.result.now in
-    put_keeps roll c.args.self.now c.args.place row (closed row) c.self.view_is c.self.invariant c.requires c.index_mut-row.ensures.value
-    (closed_counted row (counted_at roll c.args.self.now c.args.place row c.self.view_is c.self.invariant c.requires c.index_mut-row.ensures.value)) refl refl
+    let row = c.writer.inside.row in
+    put_keeps roll c.args.self.now c.args.place row (closed row) c.self.view_is c.self.invariant c.requires (same_row _ c.args.place c.writer.inside.row _ c.writer.view_is c.index_mut-writer.ensures.value)
+    (closed_counted row (counted_at roll c.args.self.now c.args.place row c.self.view_is c.self.invariant c.requires (same_row _ c.args.place c.writer.inside.row _ c.writer.view_is c.index_mut-writer.ensures.value))) refl refl
 
 pub returns : goal.returns
-returns c = put_is (the_view c.self.inside) c.args.self.now c.args.place c.index_mut-row.result.now (closed) c.self.view_is c.self.invariant c.requires c.index_mut-row.ensures.value refl
+returns c = put_is (the_view c.self.inside) c.args.self.now c.args.place c.writer.inside.row (closed) c.self.view_is c.self.invariant c.requires (same_row _ c.args.place c.writer.inside.row _ c.writer.view_is c.index_mut-writer.ensures.value) refl
