@@ -1,10 +1,13 @@
 //! The files of a folder whose bytes are put: which they are, and how they are read.
-ghost use Rattle.std.specs.Prelude.{◌≡◌, ◌⊎◌, ◌↔◌, IsTrue};
+ghost use Rattle.std.specs.Prelude.{◌≡◌, ◌⊎◌, ◌↔◌, [], None, IfOk, IsTrue, OnOk, false, filter_map, map, string_bytes};
 ghost use Rattle.std.specs.Io.{ReadsAtMost};
+ghost use Rattle.std.specs.Str.{IsUtf8};
+ghost use Rattle.plfs.specs.Entries.{IsClosed, IsKept, IsLastFirst, IsLeft, IsMet, path_of};
+ghost use Rattle.plfs_types.specs.Names.{name_of};
 
 use copy_program::Named;
 use edge_io::StdSource;
-use plfs_types::{LogicalName, Name, Word};
+use plfs_types::{LogicalName, Name, Word, name_in};
 use std::alloc::Global;
 use std::fs::{self, DirEntry, File, ReadDir};
 use std::io::{self, ErrorKind, Read};
@@ -41,7 +44,9 @@ impl From<io::Error> for Unlisted {
 pub type Putting = Named<StdSource<Entry>>;
 
 impl Entries {
-    fn new(alloc: Global) -> Entries {
+    fn new(alloc: Global) -> Entries
+        ensures { (result.names.items ≡ []) × (result.has_closed ≡ false) × (result.has_others ≡ false) }
+    {
         Entries {
             names: Vec::new(alloc),
             has_closed: false,
@@ -50,7 +55,9 @@ impl Entries {
     }
 
     // Something that is no such file is left out.
-    fn leave(&mut self, rt: &HostRuntime, folder: &Word, name: &str, why: &str) {
+    fn leave(&mut self, rt: &HostRuntime, folder: &Word, name: &str, why: &str)
+        ensures { IsLeft self.old self.new }
+    {
         self.has_others = true;
         let folder = Spelled(folder.as_str());
         let name = Spelled(name);
@@ -63,7 +70,9 @@ impl Entries {
         rt: &HostRuntime,
         entry: &DirEntry<HostRuntime, Global>,
         name: LogicalName,
-    ) -> io::Result<()> {
+    ) -> io::Result<()>
+        ensures { OnOk result (IsKept self.old name self.new ⊎ IsClosed self.old self.new) }
+    {
         match File::open(rt, entry.path()) {
             Ok(file) => {
                 drop(file);
@@ -84,7 +93,9 @@ impl Entries {
         rt: &HostRuntime,
         folder: &Word,
         entry: &DirEntry<HostRuntime, Global>,
-    ) -> Result<(), Unlisted> {
+    ) -> Result<(), Unlisted>
+        ensures { OnOk result (IsMet self.old self.new) }
+    {
         let text = entry.file_name();
         let Some(name) = LogicalName::read(text.as_bytes()) else {
             self.leave(rt, folder, text, "its name is none of a file");
@@ -112,7 +123,9 @@ impl Entries {
         rt: &HostRuntime,
         folder: &Word,
         listing: ReadDir<HostRuntime, Global>,
-    ) -> Result<(), Unlisted> {
+    ) -> Result<(), Unlisted>
+        ensures { OnOk result (IsLastFirst self.new.names.items) }
+    {
         for entry in listing {
             match entry {
                 Ok(entry) => self.meet(rt, folder, &entry)?,
@@ -128,13 +141,13 @@ impl Entries {
     }
 
     /// The files, the last one first. Each is opened where it is read.
-    pub fn sources(&self, rt: HostRuntime, folder: &Word) -> io::Result<Vec<Putting>> {
+    pub fn sources(&self, rt: HostRuntime, folder: &Word) -> io::Result<Vec<Putting>>
+        ensures names { IfOk result (λ sources. map (λ source. source.name) sources.items ≡ filter_map name_of self.now.names.items) }
+    {
         let mut sources = Vec::new(rt.alloc());
         for name in self.names.iter() {
-            if let Some(name) = LogicalName::read(name.bytes()) {
-                let path = path_of(rt.alloc(), folder, &name.name())?;
-                let input = StdSource::new(Entry::new(rt, path));
-                sources.push(Named { name, input })?;
+            if let Some(name) = name_in(name.bytes()) {
+                sources.push(source_of(rt, folder, name)?)?;
             }
         }
         Ok(sources)
@@ -143,7 +156,9 @@ impl Entries {
 
 /// The files of this folder that can be put. What else is there is said on standard error.
 #[inline(never)]
-pub fn list_files(rt: &HostRuntime, folder: &Word) -> Result<Entries, Unlisted> {
+pub fn list_files(rt: &HostRuntime, folder: &Word) -> Result<Entries, Unlisted>
+    ensures { IfOk result (λ entries. IsLastFirst entries.names.items) }
+{
     let mut entries = Entries::new(rt.alloc());
     match fs::read_dir(rt, folder.as_str()) {
         Ok(listing) => entries.meet_all(rt, folder, listing)?,
@@ -185,16 +200,30 @@ fn is_link(entry: &DirEntry<HostRuntime, Global>) -> bool {
 }
 
 // The path of the file of this name.
-fn path_of(alloc: Global, folder: &Word, name: &Name) -> io::Result<String> {
+fn path_of(alloc: Global, folder: &Word, name: &Name) -> io::Result<String>
+    ensures { IsUtf8 name.now → IfOk result (λ path. string_bytes path ≡ path_of folder.now name.now) }
+{
     let mut path = String::from_str(alloc, folder.as_str())?;
     path.push_str("/")?;
     path.push_str(str::from_utf8(name.bytes()).unwrap_or(""))?;
     Ok(path)
 }
 
+// The file of this name in the folder.
+fn source_of(rt: HostRuntime, folder: &Word, name: LogicalName) -> io::Result<Putting>
+    ensures name { IfOk result (λ source. source.name ≡ name) }
+    ensures path { IsUtf8 name → IfOk result (λ source. string_bytes source.input.reader.path ≡ path_of folder.now name) }
+{
+    let path = path_of(rt.alloc(), folder, &name.name())?;
+    let input = StdSource::new(Entry::new(rt, path));
+    Ok(Named { name, input })
+}
+
 impl Entry {
     // The file at this path.
-    fn new(rt: HostRuntime, path: String) -> Entry {
+    fn new(rt: HostRuntime, path: String) -> Entry
+        ensures { (result.path ≡ path) × (result.file ≡ None) }
+    {
         Entry {
             rt,
             path,

@@ -2,10 +2,14 @@
 //!
 //! Each is filled under a name that none of them has, and gets its own where it has all its bytes. So what stands under a name is whole,
 //! also after a kill.
-ghost use Rattle.std.specs.Prelude.{◌≡◌, ◌≢◌, ◌≤◌, ◌↔◌, IsErr, IsTrue, None, Ok, [], false, length, true};
+ghost use Rattle.std.specs.Prelude.{◌≡◌, ◌≢◌, ◌≤◌, ◌↔◌, IsErr, IfErr, IfOk, IsTrue, None, Ok, [], codes, false, length, string_bytes, true};
 ghost use Rattle.std.specs.IoError.{error_kind};
 ghost use Rattle.std.specs.Str.{IsUtf8};
+ghost use Rattle.std.specs.Process.{exit_status};
 ghost use Rattle.edge_io.specs.Sink.{Takes, taking_over};
+ghost use Rattle.export_program.specs.Words.{IsExportCommand};
+ghost use Rattle.export_program.specs.declared.words.ExportCommand.{ExportCommand as Asked};
+ghost use Rattle.plfs.specs.Entries.{path_of};
 ghost use Rattle.system_edge.specs.Telling.{tells_damage};
 
 use crate::serve;
@@ -54,6 +58,7 @@ fn tell(rt: &HostRuntime, path: &str, what: &str, error: io::Error) {
 fn unmade(rt: &HostRuntime, path: &str, error: io::Error) -> Unmade
     ensures starved { error_kind error ≡ ErrorKind.OutOfMemory → result ≡ Unmade.NoMemory }
     ensures failed { error_kind error ≢ ErrorKind.OutOfMemory → result ≡ Unmade.Failed }
+    ensures new { result ≢ Unmade.Exists }
 {
     if error.kind() == ErrorKind::OutOfMemory {
         return Unmade::NoMemory;
@@ -107,7 +112,9 @@ struct FolderShelf<'a> {
 }
 
 // The path of an item of this name.
-fn path_in(alloc: Global, folder: &Word, name: &str) -> Result<String, AllocError> {
+fn path_in(alloc: Global, folder: &Word, name: &str) -> Result<String, AllocError>
+    ensures { IfOk result (λ path. string_bytes path ≡ path_of folder.now name.now) }
+{
     let mut path = String::from_str(alloc, folder.as_str())?;
     path.push_str("/")?;
     path.push_str(name)?;
@@ -116,7 +123,9 @@ fn path_in(alloc: Global, folder: &Word, name: &str) -> Result<String, AllocErro
 
 impl<'a> FolderShelf<'a> {
     // The folder, and whether files that stand there are written over.
-    fn new(rt: HostRuntime, folder: &'a Word, over: bool) -> Result<FolderShelf<'a>, AllocError> {
+    fn new(rt: HostRuntime, folder: &'a Word, over: bool) -> Result<FolderShelf<'a>, AllocError>
+        ensures { IfOk result (λ shelf. (shelf.over ≡ over) × (shelf.folder.now ≡ folder.now) × (string_bytes shelf.filled ≡ path_of folder.now (codes ".plfs_export"))) }
+    {
         let filled = path_in(rt.alloc(), folder, FILLED)?;
         Ok(FolderShelf {
             rt,
@@ -127,7 +136,9 @@ impl<'a> FolderShelf<'a> {
     }
 
     // Whether a file can be kept at this path: something that stands there may be written over, and is no folder.
-    fn is_free(&self, path: &str) -> Result<(), Unmade> {
+    fn is_free(&self, path: &str) -> Result<(), Unmade>
+        ensures { self.now.over ≡ true → IfErr result (λ why. why ≢ Unmade.Exists) }
+    {
         match fs::symlink_metadata(&self.rt, path) {
             Ok(_) if !self.over => Err(Unmade::Exists),
             Ok(found) if found.is_dir() => {
@@ -155,7 +166,11 @@ impl<'a> FolderShelf<'a> {
     }
 
     // A file that is to stand at this path.
-    fn make_at(&self, path: String) -> Result<NewFile, Unmade> {
+    fn make_at(&self, path: String) -> Result<NewFile, Unmade>
+        ensures over { self.now.over ≡ true → IfErr result (λ why. why ≢ Unmade.Exists) }
+        ensures path { IfOk result (λ new. new.path ≡ path) }
+        ensures none { IfOk result (λ new. (new.faults ≡ 0) × (new.stalls ≡ 0)) }
+    {
         self.is_free(path.as_str())?;
         match self.open_new() {
             Ok(file) => Ok(NewFile {
@@ -170,7 +185,11 @@ impl<'a> FolderShelf<'a> {
     }
 
     // A file that is to have this name.
-    fn make_named(&self, name: LogicalName) -> Result<NewFile, Unmade> {
+    fn make_named(&self, name: LogicalName) -> Result<NewFile, Unmade>
+        ensures over { self.now.over ≡ true → IfErr result (λ why. why ≢ Unmade.Exists) }
+        ensures path { IsUtf8 name → IfOk result (λ new. string_bytes new.path ≡ path_of self.now.folder.now name) }
+        ensures none { IfOk result (λ new. (new.faults ≡ 0) × (new.stalls ≡ 0)) }
+    {
         let name = name.name();
         let name = str::from_utf8(name.bytes()).unwrap_or("");
         match path_in(self.rt.alloc(), self.folder, name) {
@@ -361,6 +380,7 @@ pub fn obey_export<H: Threads + Wait + Sync + Copy + Send + 'static>(
     standard: &Standard,
 ) -> ExitCode
     requires few { length folders.now ≤ MOST_FOLDERS }
+    ensures usage { ((command : Asked) → ¬ IsExportCommand words.now command) → exit_status result ≡ 2 }
 {
     let Some(command) = ExportCommand::read(words) else {
         return usage(&rt, Program::Copy);

@@ -5,7 +5,14 @@
 //! `plfs_copy` reads its input behind that. Where a run ends with a status from 3 to 7, it says why on standard error, in one line.
 #![tactic(auto)]
 
-ghost use Rattle.std.specs.Prelude.{◌≤◌, length};
+ghost use Rattle.std.specs.Prelude.{◌≡◌, ◌≢◌, ◌≤◌, ◌⊎◌, [], Some, None, true, false, length};
+ghost use Rattle.std.specs.Process.{exit_status};
+ghost use Rattle.check_program.specs.Words.{IsCheckCommand};
+ghost use Rattle.check_program.specs.declared.words.CheckCommand.{CheckCommand as CheckAsked};
+ghost use Rattle.command_line.specs.Commands.{IsCommand};
+ghost use Rattle.command_line.specs.declared.commands.Command.{Command as Asked};
+ghost use Rattle.plfs.specs.Tasks.{writes_whole_files};
+ghost use Rattle.plfs.specs.Words.{AreOfDrain, AreOfFolder, AreTaken};
 
 mod entries;
 mod exporting;
@@ -96,6 +103,7 @@ fn obey<H: Threads + Wait + Sync + Copy + Send + 'static>(
     standard: &Standard,
 ) -> ExitCode
     requires few { length folders.now ≤ MOST_FOLDERS }
+    ensures usage { ((command : Asked) → ¬ IsCommand words.now command) → ¬ AreOfDrain words.now → (exit_status result ≡ 2) ⊎ (exit_status result ≡ 3) }
 {
     let Ok(command) = Command::read(rt.alloc(), words) else {
         return starved(&rt);
@@ -126,6 +134,7 @@ fn obey_drain<H: Threads + Wait + Sync + Copy + Send + 'static>(
     standard: &Standard,
 ) -> ExitCode
     requires few { length folders.now ≤ MOST_FOLDERS }
+    ensures usage { ¬ AreOfDrain words.now → exit_status result ≡ 2 }
 {
     let Some(folder) = words.get(2) else {
         return usage(&rt, Program::Plfs);
@@ -162,6 +171,7 @@ fn obey_copy<H: Threads + Wait + Sync + Copy + Send + 'static>(
     standard: &Standard,
 ) -> ExitCode
     requires few { length folders.now ≤ MOST_FOLDERS }
+    ensures usage { ¬ AreTaken words.now → exit_status result ≡ 2 }
 {
     let (words, behind) = split_from(words);
     let Some(command) = CopyCommand::read(words) else {
@@ -218,6 +228,8 @@ fn obey_import<H: Threads + Wait + Sync + Copy + Send + 'static>(
     standard: &Standard,
 ) -> ExitCode
     requires few { length folders.now ≤ MOST_FOLDERS }
+    ensures behind { behind.now ≢ [] → exit_status result ≡ 2 }
+    ensures usage { ¬ AreOfFolder words.now → exit_status result ≡ 2 }
 {
     if !behind.is_empty() {
         return usage(&rt, Program::Copy);
@@ -251,6 +263,7 @@ fn obey_check<H: Threads + Wait + Sync + Copy + Send + 'static>(
     standard: &Standard,
 ) -> ExitCode
     requires few { length folders.now ≤ MOST_FOLDERS }
+    ensures usage { ((command : CheckAsked) → ¬ IsCheckCommand words.now command) → exit_status result ≡ 2 }
 {
     if CheckCommand::read(words).is_none() {
         return usage(&rt, Program::Check);
@@ -286,7 +299,10 @@ fn serve<H: Threads + Wait + Sync + Copy + Send + 'static>(
 }
 
 // The handle, where the command writes whole files out: then a thread reads ahead.
-fn ahead<H: Copy>(handle: &H, task: &Task<'_>) -> Option<H> {
+fn ahead<H: Copy>(handle: &H, task: &Task<'_>) -> Option<H>
+    ensures reads { writes_whole_files task.now ≡ true → result ≡ Some handle.now }
+    ensures none { writes_whole_files task.now ≡ false → result ≡ None }
+{
     if writes_whole_files(task) {
         Some(*handle)
     } else {

@@ -1,5 +1,7 @@
 //! Requests of other programs: they come on standard input, and their answers go to standard output; or both go by named pipes.
-ghost use Rattle.std.specs.Prelude.{◌≤◌, length};
+ghost use Rattle.std.specs.Prelude.{◌≡◌, ◌≢◌, ◌≤◌, ◌↔◌, ℕ, List, Option, None, IsTrue, false, length, true};
+ghost use Rattle.std.specs.Process.{exit_status};
+ghost use Rattle.serve_program.specs.Words.{IsServeCommand};
 
 use crate::serve;
 use crate::task::{Folders, Task};
@@ -92,6 +94,7 @@ pub fn obey_serve<H: Threads + Wait + Sync + Copy + Send + 'static>(
     standard: &Standard,
 ) -> ExitCode
     requires few { length folders.now ≤ MOST_FOLDERS }
+    ensures usage { ((folder : Option (List ℕ)) (host : ℕ) → ¬ IsServeCommand words.now folder host) → exit_status result ≡ 2 }
 {
     let Some(ServeCommand { folder, host }) = ServeCommand::read(words) else {
         return usage(&rt, Program::Serve);
@@ -144,12 +147,11 @@ fn obey_door<H: Threads + Wait + Sync + Copy + Send + 'static>(
 }
 
 /// Says what no stream and no folder tells: that the input was cut off or a request too long, or that no mount is left. Whether it was said.
-pub fn tells_requests(
-    rt: &HostRuntime,
-    root: &str,
-    status: u8,
-    unread: &Option<io::Error>,
-) -> bool {
+pub fn tells_requests(rt: &HostRuntime, root: &str, status: u8, unread: &Option<io::Error>) -> bool
+    ensures unmounted { status ≡ 1 → result ≡ true }
+    ensures cut_off { status ≡ 5 → IsTrue result ↔ (unread.now ≡ None) }
+    ensures others { status ≢ 1 → status ≢ 5 → result ≡ false }
+{
     match (status, unread) {
         (1, _) => {
             let root = Spelled(root);

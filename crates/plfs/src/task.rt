@@ -1,4 +1,7 @@
 //! A command, and its run over the folders, the standard streams and the system's clock.
+ghost use Rattle.std.specs.Prelude.{◌≡◌, ◌≤◌, ◌⊎◌, true, false};
+ghost use Rattle.plfs.specs.Tasks.{copies_as_it_goes, has_lines, starts_threads, writes_whole_files};
+
 use crate::entries::Entries;
 use crate::exporting::export_files;
 use crate::progress::Progress;
@@ -121,7 +124,9 @@ fn taken<T: Drop>(cell: &RefCell<T>, instead: T) -> T {
 }
 
 // Whether what the command writes has lines that begin with a number. Those of an import begin with a name.
-fn has_lines(task: &Task<'_>) -> bool {
+fn has_lines(task: &Task<'_>) -> bool
+    ensures { result ≡ has_lines task.now }
+{
     match task {
         Task::Plfs { command, .. } => !writes_a_file(command),
         Task::Copy { command, .. } => copies_the_input(command),
@@ -133,7 +138,9 @@ fn has_lines(task: &Task<'_>) -> bool {
 }
 
 /// Whether the command writes out whole files of a container.
-pub fn writes_whole_files(task: &Task<'_>) -> bool {
+pub fn writes_whole_files(task: &Task<'_>) -> bool
+    ensures { result ≡ writes_whole_files task.now }
+{
     match task {
         Task::Plfs { command, .. } => matches!(command, Command::Cat { .. }),
         Task::Copy { command, .. } => !copies_the_input(command),
@@ -143,7 +150,9 @@ pub fn writes_whole_files(task: &Task<'_>) -> bool {
 }
 
 /// Whether threads may be at work beside the one that runs the command.
-pub fn starts_threads(task: &Task<'_>) -> bool {
+pub fn starts_threads(task: &Task<'_>) -> bool
+    ensures { result ≡ starts_threads task.now }
+{
     match task {
         Task::Plfs { command, .. } => matches!(command, Command::Run | Command::Cat { .. }),
         Task::Serve { .. } => true,
@@ -164,7 +173,9 @@ fn copied_length(rt: &HostRuntime, files: &[Word], opened: &RefCell<Vec<File>>) 
 }
 
 // How many bytes are copied, where that is known, and else 0.
-fn length_of(rt: &HostRuntime, task: &Task<'_>) -> u64 {
+fn length_of(rt: &HostRuntime, task: &Task<'_>) -> u64
+    ensures { copies_as_it_goes task.now ≡ false → result ≡ 0 }
+{
     match task {
         Task::Copy {
             command,
@@ -191,7 +202,10 @@ fn put_files<O: Sink>(
     entries: &Entries,
     sink: &mut O,
     store: Folders,
-) -> Ended<Folders> {
+) -> Ended<Folders>
+    ensures closed { entries.now.has_closed ≡ true → (5 ≤ result.status) ⊎ (result.status ≡ 3) }
+    ensures others { entries.now.has_others ≡ true → 1 ≤ result.status }
+{
     let Ok(files) = entries.sources(*rt, folder) else {
         return Ended {
             store: Some(store),

@@ -2,7 +2,7 @@
 ghost use Rattle.std.specs.Prelude.{◌≡◌, ◌≢◌, ◌⊎◌};
 ghost use Rattle.std.specs.IoError.{error_kind};
 ghost use Rattle.std.specs.Process.{exit_status};
-ghost use Rattle.plfs.specs.Telling.{unopened_status};
+ghost use Rattle.plfs.specs.Telling.{names_a_file, unopened_status};
 
 use crate::entries::Unlisted;
 use crate::exporting::tells_each;
@@ -162,7 +162,9 @@ fn is_told(
 
 // Says which of the files in the place of standard input failed: whether there were any. Of a folder's files each that failed was told
 // as it did.
-fn tells_file(rt: &HostRuntime, task: &Task<'_>, read: usize, unread: &Option<io::Error>) -> bool {
+fn tells_file(rt: &HostRuntime, task: &Task<'_>, read: usize, unread: &Option<io::Error>) -> bool
+    ensures { result ≡ names_a_file task.now read }
+{
     if let Task::Import { .. } = task {
         return true;
     }
